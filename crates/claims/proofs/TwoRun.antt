@@ -1,0 +1,172 @@
+-- Demand 3: the two-run property of two lists of calls, and of the same calls on the doubled image.
+use Prim.Native.Nat.{ℕ, zero, suc, _+_, _*_}
+use native.Mathlib.Omega.{arith}
+use mathlib.Core.Path.{_≡_, refl, sym, ap, ap₂}
+use mathlib.Core.List.{List, Forall₂, Forall₂·nil, Forall₂·cons}
+use mathlib.Core.Option.{Option, none, some}
+use lib.ListN.{length, getD}
+use Rattle.gates.specs.Relations.{AgreeByte, same, low-high, high-low, Agree}
+use Rattle.netlist.specs.Image.{sizesOf, netsOf}
+use Rattle.netlist.specs.declared.answer.Refusal.{Refusal}
+use Rattle.netlist.specs.Check.{refuse, badByte, badLength}
+use Rattle.netlist.proofs.Pairs.{pairs-refl, pairs-length, pairs-append, pairs-map, pairs-square}
+use Rattle.netlist.proofs.Checked.{Checked, check-none}
+use Rattle.tracker.specs.Cycle.{Cycle, firstOf, firstFlow}
+use Rattle.tracker.specs.Calls.{done, Stepped, powerUpOf, asStep, stepRefusal, runRefusal}
+use Rattle.tracker.proofs.Cycles.{Related, agree-outputs, agree-cycle, agree-cycles, outputs-of-related, state-after-related}
+use Rattle.tracker.proofs.Calls.{step-none, run-none, powered-up}
+use Rattle.doubling.specs.Doubled.{doubledImage, split}
+use Rattle.claims.specs.History.{Call, refusalOf, stepped, ran, madeBy, history, cyclesIn, Finished, InSteps}
+use Rattle.claims.specs.Pairing.{Shows}
+use Rattle.claims.specs.TwoRun.{Matched, steps, runs, SameCycle, SameCall, turned-back, finished, SameCalls, SameShown, Demand3}
+use Rattle.claims.proofs.Steps.{run-is-steps}
+use Rattle.claims.proofs.History.{turns-back, made-refused, made-step, made-run}
+use Rattle.claims.proofs.Pairing.{demand2}
+
+agree-refl : (xs : List ℕ) → Agree xs xs
+agree-refl = pairs-refl (λ x. same)
+
+-- REFUSALS see only lengths and bytes above 3
+same-length : (xs ys : List ℕ) (number n : ℕ) → length xs ≡ length ys → badLength number n xs ≡ badLength number n ys
+unfolding badLength
+same-length xs ys number n h = rw h
+
+same-byte : {xs ys : List ℕ} (number i : ℕ) → Agree xs ys → badByte number i xs ≡ badByte number i ys
+unfolding badByte
+same-byte number i Forall₂·nil = refl
+same-byte number i (Forall₂·cons same t) = rw (same-byte number (suc i) t)
+same-byte number i (Forall₂·cons low-high t) = rw (same-byte number (suc i) t)
+same-byte number i (Forall₂·cons high-low t) = rw (same-byte number (suc i) t)
+
+same-refusal : (s : List ℕ) {st st′ : List ℕ} {c d : Call} → Agree st st′ → Matched c d → refusalOf s st c ≡ refusalOf s st′ d
+unfolding refusalOf stepRefusal runRefusal
+same-refusal s {st} {st′} q (steps {r} {r′} {b} {b′} p h) =
+    rw (
+      same-length st st′ 10 (sizesOf s .registers) (pairs-length q),
+      same-byte 11 0 q,
+      same-length r r′ 12 (sizesOf s .inputs) (pairs-length p),
+      same-byte 13 0 p,
+      same-length b b′ 14 (sizesOf s .nets) h,
+    )
+same-refusal s {st} {st′} q (runs {k} {r} {r′} {b} {b′} p h) =
+    rw (
+      same-length st st′ 10 (sizesOf s .registers) (pairs-length q),
+      same-byte 11 0 q,
+      same-length r r′ 12 (k * sizesOf s .inputs) (pairs-length p),
+      same-byte 13 0 p,
+      same-length b b′ 14 (k * sizesOf s .outputs) h,
+    )
+
+-- CYCLES that agree
+first-equal : {cs cs′ : List Cycle} (i : ℕ) → Forall₂ (Related AgreeByte _≡_) cs cs′ → firstFlow i cs ≡ firstFlow i cs′
+unfolding firstFlow
+first-equal i Forall₂·nil = refl
+first-equal i (Forall₂·cons h t) = ap₂ (firstOf i) (h .verdict) (first-equal (suc i) t)
+
+as-steps : (c c′ : Cycle) → Related AgreeByte _≡_ c c′ → SameCycle (asStep c) (asStep c′)
+unfolding asStep
+as-steps c c′ h = record { verdict = ap done (h .verdict); nets = h .bytes; state = h .state }
+
+-- CALLS. One place of the two lists
+record SamePlace (s st st′ : List ℕ) (c d : Call) : Type 0 where
+  call : SameCall s st st′ c d (madeBy s st c) (madeBy s st′ d)
+  state : Agree (madeBy s st c .state) (madeBy s st′ d .state)
+  cycles : Forall₂ SameCycle (madeBy s st c .cycles) (madeBy s st′ d .cycles)
+
+same-place :
+    (s : List ℕ) {st st′ : List ℕ} {c d : Call} → Agree st st′ → Matched c d
+    → (o : Option Refusal) → refusalOf s st c ≡ o → refusalOf s st′ d ≡ o → SamePlace s st st′ c d
+unfolding refusalOf
+same-place s {st} {st′} {c} {d} q m (some r) h k =
+    let e = made-refused s st c r h in
+    let e′ = made-refused s st′ d r k in
+    record {
+      call = rw (e, e′) (turned-back r (turns-back c r) (turns-back d r) refl refl refl refl refl refl);
+      state = rw (e, e′) q;
+      cycles = rw (e, e′) Forall₂·nil;
+    }
+same-place s {st} {st′} q (steps {r} {r′} {b} {b′} p l) none h k =
+    let e = made-step s st r b h in
+    let e′ = made-step s st′ r′ b′ k in
+    let a = agree-cycle (step-none s st r b .0 h .0 .image .nets) p q in
+    let t = pairs-map asStep as-steps (Forall₂·cons a Forall₂·nil) in
+    record {
+      call = rw (e, e′) (finished Finished.a-step (ap (λ v. stepped (done v)) (a .verdict)) (a .bytes) t InSteps.a-step InSteps.a-step);
+      state = rw (e, e′) (a .state);
+      cycles = rw (e, e′) t;
+    }
+same-place s {st} {st′} q (runs {k = n} {r} {r′} {b} {b′} p l) none h k =
+    let e = made-run s st n r b h in
+    let e′ = made-run s st′ n r′ b′ k in
+    let a = agree-cycles (run-none s st n r b .0 h .0 .image .nets) (sizesOf s .inputs) n p q in
+    let t = pairs-map asStep as-steps a in
+    record {
+      call =
+          rw (e, e′)
+          (finished Finished.a-run (ap (λ f. ran (done f)) (first-equal 0 a)) (outputs-of-related a) t
+          (InSteps.a-run (run-is-steps s st n r b h)) (InSteps.a-run (run-is-steps s st′ n r′ b′ k)));
+      state = rw (e, e′) (state-after-related q a);
+      cycles = rw (e, e′) t;
+    }
+
+place : (s : List ℕ) {st st′ : List ℕ} {c d : Call} → Agree st st′ → Matched c d → SamePlace s st st′ c d
+place s {st} {c} q m = same-place s q m (refusalOf s st c) refl (sym (same-refusal s q m))
+
+-- from any two states that agree
+same-calls : (s : List ℕ) {st st′ : List ℕ} {cs ds : List Call} → Agree st st′ → Forall₂ Matched cs ds → SameCalls s st st′ cs ds
+same-calls s q Forall₂·nil = SameCalls.nil
+same-calls s q (Forall₂·cons m ms) = let p = place s q m in SameCalls.cons (p .call) (p .state) (same-calls s (p .state) ms)
+
+same-cycles :
+    (s : List ℕ) {st st′ : List ℕ} {cs ds : List Call} → Agree st st′ → Forall₂ Matched cs ds
+    → Forall₂ SameCycle (cyclesIn (history s st cs)) (cyclesIn (history s st′ ds))
+unfolding history cyclesIn
+same-cycles s q Forall₂·nil = Forall₂·nil
+same-cycles s q (Forall₂·cons m ms) = let p = place s q m in pairs-append (p .cycles) (same-cycles s (p .state) ms)
+
+powered-agree : {s : List ℕ} → Checked s → (a b : List ℕ) → length a ≡ sizesOf s .registers → length b ≡ sizesOf s .registers
+    → Agree (powerUpOf s a .state) (powerUpOf s b .state)
+powered-agree {s} c a b l k = rw (powered-up s a c l, powered-up s b c k) (agree-refl _)
+
+-- THE DOUBLED IMAGE. Bytes that agree, split: the marks are equal, and the values where the mark is 0
+two-more : (j : ℕ) → 2 * suc j ≡ suc (suc (2 * j))
+two-more j = omega arith
+
+two-one-more : (j : ℕ) → 2 * suc j + 1 ≡ suc (suc (2 * j + 1))
+two-one-more j = omega arith
+
+marks-split : {xs ys : List ℕ} (j : ℕ) → Agree xs ys → getD (split xs) (2 * j + 1) 0 ≡ getD (split ys) (2 * j + 1) 0
+unfolding split
+marks-split j Forall₂·nil = refl
+marks-split zero (Forall₂·cons same t) = refl
+marks-split zero (Forall₂·cons low-high t) = refl
+marks-split zero (Forall₂·cons high-low t) = refl
+marks-split (suc j) (Forall₂·cons h t) = rw (two-one-more j) (marks-split j t)
+
+values-split : {xs ys : List ℕ} (j : ℕ) → Agree xs ys → getD (split xs) (2 * j + 1) 0 ≡ 0 → getD (split xs) (2 * j) 0 ≡ getD (split ys) (2 * j) 0
+unfolding split
+values-split j Forall₂·nil e = refl
+values-split zero (Forall₂·cons same t) e = refl
+values-split zero (Forall₂·cons low-high t) e = absurd (omega arith)
+values-split zero (Forall₂·cons high-low t) e = absurd (omega arith)
+values-split (suc j) (Forall₂·cons h t) e = rw (two-more j) (values-split j t (rw (two-one-more j) at e))
+
+same-shown : (s : List ℕ) (x y u v : Stepped) → Shows s x u → Shows s y v → SameCycle x y → SameShown (doubledImage s) u v
+same-shown s x y u v p q r =
+    let a = agree-outputs 0 (netsOf s) (r .nets) in
+    record {
+      marks = λ j l. rw (p .pairs, q .pairs) (marks-split j a);
+      values = λ j l e. rw (p .pairs, q .pairs) (values-split j a (rw (p .pairs) at e));
+    }
+
+pub demand3 : Demand3
+demand3 s h cs ds m =
+    let c = check-none s .0 h in
+    record {
+      calls = λ st st′ q. same-calls s q m;
+      from-power-up = λ a b l k. same-calls s (powered-agree c a b l k) m;
+      doubled = λ few a b a′ b′ l k l′ k′ cs′ ds′ p q.
+          let x = demand2 s h few a a′ l l′ cs cs′ p in
+          let y = demand2 s h few b b′ k k′ ds ds′ q in
+          (x .finished, y .finished, pairs-square (same-shown s) (x .cycles) (y .cycles) (same-cycles s (powered-agree c a b l k) m));
+    }

@@ -1,0 +1,7 @@
+-- What is claimed of gates, cycles, calls and the doubled netlist together.
+pub mod Examples
+pub mod TurnedBack
+pub mod Steps
+pub mod History
+pub mod Pairing
+pub mod TwoRun

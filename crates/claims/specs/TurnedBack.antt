@@ -1,0 +1,18 @@
+-- A call that turns back changes no lent byte, doubling neither: 17, which would set its buffer to 0, is never given.
+use Prim.Native.Nat.{ℕ}
+use mathlib.Core.Path.{_≡_}
+use mathlib.Core.List.{List}
+use Rattle.netlist.specs.declared.answer.Refusal.{Refusal}
+use Rattle.tracker.specs.Calls.{refused, powerUpOf, stepOf, runOf}
+use Rattle.doubling.specs.Doubled.{doubleOf}
+
+-- proved as `unchanged`
+pub record Unchanged : Type 0 where
+  pub power-up : (s st : List ℕ) (r : Refusal) → powerUpOf s st .answer ≡ refused r → powerUpOf s st .state ≡ st
+  pub step :
+      (s st row nets : List ℕ) (r : Refusal) → stepOf s st row nets .answer ≡ refused r
+      → (stepOf s st row nets .state ≡ st) × (stepOf s st row nets .nets ≡ nets)
+  pub run :
+      (s st : List ℕ) (k : ℕ) (rows outputs : List ℕ) (r : Refusal) → runOf s st k rows outputs .answer ≡ refused r
+      → (runOf s st k rows outputs .state ≡ st) × (runOf s st k rows outputs .outputs ≡ outputs)
+  pub double : (s buf : List ℕ) (r : Refusal) → doubleOf s buf .answer ≡ refused r → doubleOf s buf .image ≡ buf

@@ -1,0 +1,76 @@
+-- Demand 3: the two-run property, one claim about two whole lists of calls (noninterference in the literature).
+use Prim.Native.Nat.{ℕ, _+_, _*_, _≤_, _<_}
+use mathlib.Core.Path.{_≡_}
+use mathlib.Core.List.{List, [], _∷_, Forall₂}
+use mathlib.Core.Option.{none}
+use lib.ListN.{length, getD}
+use Rattle.gates.specs.Relations.{Agree}
+use Rattle.netlist.specs.Image.{sizesOf, netsOf}
+use Rattle.netlist.specs.declared.answer.Refusal.{Refusal}
+use Rattle.netlist.specs.Check.{checkRefusal}
+use Rattle.tracker.specs.Calls.{Stepped, powerUpOf}
+use Rattle.doubling.specs.Doubled.{doubledSize, doubledImage}
+use Rattle.claims.specs.History.{Call, step, run, lent, Made, madeBy, history, accepted, cyclesIn, TurnedBack, Finished, AllFinished, InSteps}
+use Rattle.claims.specs.Pairing.{Again, shown}
+
+-- what may stand at one place of the two lists
+pub data Matched : Call → Call → Type 0 where
+  steps : {r r′ b b′ : List ℕ} → Agree r r′ → length b ≡ length b′ → Matched (step r b) (step r′ b′)
+  runs : {k : ℕ} {r r′ b b′ : List ℕ} → Agree r r′ → length b ≡ length b′ → Matched (run k r b) (run k r′ b′)
+
+-- in one cycle: the same verdict, and net and register bytes that agree
+pub record SameCycle (o o′ : Stepped) : Type 0 where
+  pub verdict : o .answer ≡ o′ .answer
+  pub nets : Agree (o .nets) (o′ .nets)
+  pub state : Agree (o .state) (o′ .state)
+
+-- at one place, from the states st and st′: the same refusal, which leaves everything as it was and has no cycle; or the same answer
+-- with bytes that agree, in each cycle too, where the cycles are those of steps
+pub data SameCall (s st st′ : List ℕ) (c d : Call) (m n : Made) : Type 0 where
+  turned-back :
+      (r : Refusal) → TurnedBack r (m .answer) → TurnedBack r (n .answer)
+      → m .buffer ≡ lent c → n .buffer ≡ lent d → m .state ≡ st → n .state ≡ st′ → m .cycles ≡ [] → n .cycles ≡ []
+      → SameCall s st st′ c d m n
+  finished :
+      Finished (m .answer) → m .answer ≡ n .answer
+      → Agree (m .buffer) (n .buffer) → Forall₂ SameCycle (m .cycles) (n .cycles) → InSteps s st c → InSteps s st′ d
+      → SameCall s st st′ c d m n
+
+-- at every place, each list with its own state
+pub data SameCalls (s : List ℕ) : List ℕ → List ℕ → List Call → List Call → Type 0 where
+  nil : {st st′ : List ℕ} → SameCalls s st st′ [] []
+  cons :
+      {st st′ : List ℕ} {c d : Call} {cs ds : List Call}
+      → SameCall s st st′ c d (madeBy s st c) (madeBy s st′ d)
+      → Agree (madeBy s st c .state) (madeBy s st′ d .state)
+      → SameCalls s (madeBy s st c .state) (madeBy s st′ d .state) cs ds
+      → SameCalls s st st′ (c ∷ cs) (d ∷ ds)
+
+-- in the same cycle of two runs of the doubled image d: equal marks at the outputs, and equal values wherever the mark is 0
+pub record SameShown (d : List ℕ) (o o′ : Stepped) : Type 0 where
+  pub marks : (j : ℕ) → 2 * j + 1 < sizesOf d .outputs → getD (shown d o) (2 * j + 1) 0 ≡ getD (shown d o′) (2 * j + 1) 0
+  pub values :
+      (j : ℕ) → 2 * j + 1 < sizesOf d .outputs → getD (shown d o) (2 * j + 1) 0 ≡ 0
+      → getD (shown d o) (2 * j) 0 ≡ getD (shown d o′) (2 * j) 0
+
+-- a and b are the bytes in the two lists' states before power-up, and a′ and b′ those for the doubled image
+pub record TwoRun (s : List ℕ) (cs ds : List Call) : Type 0 where
+  pub calls : (st st′ : List ℕ) → Agree st st′ → SameCalls s st st′ cs ds
+  pub from-power-up :
+      (a b : List ℕ) → length a ≡ sizesOf s .registers → length b ≡ sizesOf s .registers
+      → SameCalls s (powerUpOf s a .state) (powerUpOf s b .state) cs ds
+  pub doubled :
+      doubledSize (netsOf s) ≤ 8192
+      → (a b a′ b′ : List ℕ) → length a ≡ sizesOf s .registers → length b ≡ sizesOf s .registers
+      → length a′ ≡ 2 * sizesOf s .registers → length b′ ≡ 2 * sizesOf s .registers
+      → (cs′ ds′ : List Call)
+      → Forall₂ (Again (doubledImage s)) (accepted s (powerUpOf s a .state) cs) cs′
+      → Forall₂ (Again (doubledImage s)) (accepted s (powerUpOf s b .state) ds) ds′
+      → let d = doubledImage s in
+      let ms = history d (powerUpOf d a′ .state) cs′ in
+      let ns = history d (powerUpOf d b′ .state) ds′ in
+      AllFinished ms × AllFinished ns × Forall₂ (SameShown d) (cyclesIn ms) (cyclesIn ns)
+
+-- proved as `demand3`
+abbrev pub Demand3 : Type 0
+Demand3 = (s : List ℕ) → checkRefusal s ≡ none → (cs ds : List Call) → Forall₂ Matched cs ds → TwoRun s cs ds

@@ -1,0 +1,127 @@
+-- The doubled image of an accepted image: it is read back as the doubled netlist, it passes checking, and its numbers are bytes.
+use Prim.Native.Nat.{ℕ, suc, _+_, _*_, _≤_, _<_}
+use mathlib.Core.Logic.{_↔_}
+use mathlib.Core.Path.{_≡_, refl, ap, sym, _∙_}
+use mathlib.Core.List.{List, [], _∷_, _++_}
+use mathlib.Core.Option.{none, some}
+use mathlib.Core.Bool.{Bool, true, false, cond}
+use native.Mathlib.Omega.{arith}
+use lib.Dec.{eqb}
+use lib.ListN.{length}
+use Rattle.netlist.specs.declared.image.Net.{Net}
+use Rattle.netlist.specs.Image.{sizesOf, netsOf, count}
+use Rattle.netlist.specs.declared.answer.Refusal.{Refusal}
+use Rattle.netlist.proofs.Refusals.{accepted}
+use Rattle.netlist.proofs.Checked.{Passes, is-const, is-input, is-reg, is-not, is-and, is-or, is-xor, is-mux, is-out, AllPass, nil, cons, Checked, check-none, length-nets}
+use Rattle.netlist.proofs.Encoding.{encode-length, sizes-back, nets-back, Bytes, encode-bytes}
+use Rattle.tracker.specs.Calls.{done, refused}
+use Rattle.doubling.specs.Doubled.{doubledSize, valueNet, markNet, groupOf, groupAt, groupsFrom, doubledNets, doubledImage, doubleRefusal, doubleOf}
+use Rattle.doubling.proofs.Positions.{two-or-more, doubled-length, doubled-passes}
+
+-- the kinds that are counted
+data Counted : ℕ → Type 0 where
+  c-in : Counted 1
+  c-reg : Counted 2
+  c-out : Counted 8
+
+group-count : {k n i : ℕ} {x : Net} (v : ℕ) (val mrk : ℕ → ℕ) → Counted k → Passes n i x → count k (groupOf v x val mrk) ≡ 2 * cond (eqb (x .kind) k) 1 0
+unfolding groupOf count
+group-count v val mrk c (is-const h) = elim c [ c-in ↦ refl | c-reg ↦ refl | c-out ↦ refl ]
+group-count v val mrk c is-input = elim c [ c-in ↦ refl | c-reg ↦ refl | c-out ↦ refl ]
+group-count v val mrk c (is-reg h k) = elim c [ c-in ↦ refl | c-reg ↦ refl | c-out ↦ refl ]
+group-count v val mrk c (is-not h) = elim c [ c-in ↦ refl | c-reg ↦ refl | c-out ↦ refl ]
+group-count v val mrk c (is-and h k) = elim c [ c-in ↦ refl | c-reg ↦ refl | c-out ↦ refl ]
+group-count v val mrk c (is-or h k) = elim c [ c-in ↦ refl | c-reg ↦ refl | c-out ↦ refl ]
+group-count v val mrk c (is-xor h k) = elim c [ c-in ↦ refl | c-reg ↦ refl | c-out ↦ refl ]
+group-count v val mrk c (is-mux h k l) = elim c [ c-in ↦ refl | c-reg ↦ refl | c-out ↦ refl ]
+group-count v val mrk c (is-out h k) = elim c [ c-in ↦ refl | c-reg ↦ refl | c-out ↦ refl ]
+
+count-append : (k : ℕ) (xs ys : List Net) → count k (xs ++ ys) ≡ count k xs + count k ys
+unfolding count
+count-append k [] ys = omega arith
+count-append k (x ∷ xs) ys = let h = count-append k xs ys in omega arith
+
+groups-count : (xs : List Net) {k n i : ℕ} {ys : List Net} → Counted k → AllPass n i ys → count k (groupsFrom xs i ys) ≡ 2 * count k ys
+unfolding groupsFrom count
+groups-count xs c nil = refl
+groups-count xs {k = k} {i = i} c (cons {x = y} {xs = ys} p ps) =
+    omega
+    (arith, count-append k (groupAt xs i y) (groupsFrom xs (suc i) ys), group-count (valueNet xs i) (valueNet xs) (markNet xs) c p, groups-count xs c ps)
+
+doubled-count : {xs : List Net} {k n : ℕ} → Counted k → AllPass n 0 xs → count k (doubledNets xs) ≡ 2 * count k xs
+unfolding doubledNets
+doubled-count {xs} c ps = groups-count xs c ps
+
+count-le : (k : ℕ) (xs : List Net) → count k xs ≤ length xs
+unfolding count
+count-le k [] = omega arith
+count-le k (x ∷ xs) = one (eqb (x .kind) k) (count-le k xs)
+  where
+    one : (c : Bool) {m n : ℕ} → m ≤ n → cond c 1 0 + m ≤ suc n
+    one true h = omega arith
+    one false h = omega arith
+
+size-positive : {n i : ℕ} {xs : List Net} → AllPass n i xs → 0 < length xs → 0 < doubledSize xs
+unfolding doubledSize
+size-positive nil h = absurd (omega arith)
+size-positive (cons p ps) h = omega (arith, two-or-more p)
+
+-- what is read back from the doubled image
+pub doubled-sizes :
+    (s : List ℕ)
+    → sizesOf (doubledImage s)
+    ≡ record { nets = doubledSize (netsOf s); inputs = 2 * sizesOf s .inputs; registers = 2 * sizesOf s .registers; outputs = 2 * sizesOf s .outputs }
+unfolding doubledImage
+doubled-sizes s = sizes-back _ _
+
+pub doubled-nets : (s : List ℕ) → netsOf (doubledImage s) ≡ doubledNets (netsOf s)
+unfolding doubledImage
+doubled-nets s = nets-back _ _ (sym (doubled-length (netsOf s)))
+
+pub doubled-image-length : (s : List ℕ) → length (doubledImage s) ≡ 8 + 7 * doubledSize (netsOf s)
+unfolding doubledImage
+doubled-image-length s = encode-length _ (doubledNets (netsOf s)) ∙ ap (λ n. 8 + 7 * n) (doubled-length (netsOf s))
+
+pub doubled-checked : (s : List ℕ) → Checked s → doubledSize (netsOf s) ≤ 8192 → Checked (doubledImage s)
+doubled-checked s c h =
+    let l = length-nets s in
+    let sizes = doubled-sizes s in
+    let nets = doubled-nets s in
+    record {
+      some-nets = rw sizes (size-positive (c .nets) (omega arith));
+      few-nets = rw sizes h;
+      exact = rw sizes (doubled-image-length s);
+      nets = rw (sizes, nets) (doubled-passes (c .nets) (sym l));
+      inputs = rw (sizes, nets) (ap (λ n. 2 * n) (c .inputs) ∙ sym (doubled-count c-in (c .nets)));
+      registers = rw (sizes, nets) (ap (λ n. 2 * n) (c .registers) ∙ sym (doubled-count c-reg (c .nets)));
+      outputs = rw (sizes, nets) (ap (λ n. 2 * n) (c .outputs) ∙ sym (doubled-count c-out (c .nets)));
+    }
+
+pub doubled-bytes : (s : List ℕ) → Checked s → doubledSize (netsOf s) ≤ 8192 → Bytes (doubledImage s)
+unfolding doubledImage
+doubled-bytes s c h =
+    let xs = netsOf s in
+    let l = doubled-length xs in
+    encode-bytes h (omega arith) (doubled-passes (c .nets) (sym (length-nets s)))
+    (omega arith)
+    (omega (arith, c .inputs, doubled-count c-in (c .nets), count-le 1 (doubledNets xs)))
+    (omega (arith, c .registers, doubled-count c-reg (c .nets), count-le 2 (doubledNets xs)))
+    (omega (arith, c .outputs, doubled-count c-out (c .nets), count-le 8 (doubledNets xs)))
+
+-- DOUBLING
+pub double-none : (s buf : List ℕ) → (doubleRefusal s buf ≡ none) ↔ (Checked s × (doubledSize (netsOf s) ≤ 8192) × (length buf ≡ 8 + 7 * doubledSize (netsOf s)))
+unfolding doubleRefusal
+double-none s buf =
+    (λ h. let t = simp (accepted, check-none) at h in (t .0, t .1 .0, t .1 .1), λ h. simp (accepted, check-none) (h .0, (h .1, h .2)))
+
+-- an accepted call writes the doubled image: 17 is never given
+pub double-accepted : (s buf : List ℕ) → doubleRefusal s buf ≡ none → doubleOf s buf ≡ record { answer = done tt; image = doubledImage s }
+unfolding doubleOf
+double-accepted s buf h =
+    let t = double-none s buf .0 h in
+    let e = check-none (doubledImage s) .1 (doubled-checked s (t .0) (t .1)) in
+    rw (h, doubleOf) (rw e)
+
+pub double-refused : (s buf : List ℕ) (r : Refusal) → doubleRefusal s buf ≡ some r → doubleOf s buf ≡ record { answer = refused r; image = buf }
+unfolding doubleOf
+double-refused s buf r h = rw (h, doubleOf)

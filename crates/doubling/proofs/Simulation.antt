@@ -1,0 +1,339 @@
+-- One cycle of the doubled netlist shows the value and the mark of every net of the source; so do its outputs, its state and power-up.
+use Prim.Native.Nat.{ℕ, zero, suc, _+_, _*_, _-_, _/_, _%_, _≤_, _<_}
+use mathlib.Core.Path.{_≡_, refl, ap, ap₂, sym, _∙_, subst}
+use mathlib.Core.List.{List, [], _∷_, _++_, map, append-assoc, Forall₂, Forall₂·nil, Forall₂·cons}
+use mathlib.Core.Bool.{Bool, true, false, cond}
+use mathlib.Core.Logic.{_⊎_, inl, inr}
+use native.Mathlib.Omega.{arith}
+use native.Mathlib.Numerals.{add-one}
+use native.Mathlib.Decide.{decLt}
+use native.Mathlib.Nat.{add-zero}
+use lib.Dec.{eqb, lit≤}
+use lib.ListN.{length, getD, take, drop, length-append, List·getD-append}
+use lib.Seq.{getD-append-add, getD-append-seam, drop-drop}
+use Rattle.gates.specs.Rules.{gateByte}
+use Rattle.gates.proofs.Laws.{Code}
+use Rattle.netlist.specs.declared.image.Net.{Net}
+use Rattle.netlist.specs.Image.{net}
+use Rattle.netlist.proofs.Pairs.{pairs-append, pairs-getD, pairs-drop}
+use Rattle.netlist.proofs.Refusals.{Codes}
+use Rattle.netlist.proofs.Checked.{Passes, is-const, is-input, is-reg, is-not, is-and, is-or, is-xor, is-mux, is-out, AllPass, nil, cons}
+use Rattle.tracker.specs.Cycle.{Walk, pinByte, netByte, past, walk, bytesOf, outputsFrom, registers, clocked, Cycle, cycleOf}
+use Rattle.tracker.specs.Calls.{start, starts}
+use Rattle.doubling.specs.Doubled.{groupLength, groupLengths, doubledSize, valueNet, markNet, groupOf, groupAt, groupsFrom, doubledNets, split}
+use Rattle.doubling.proofs.Positions.{Laid, end, next, laid, group-length, value-below, mark-below, mark-second}
+use Rattle.doubling.proofs.Groups.{at, past-gate, walked-all, comes-length, Splits, byte-splits, const-splits, Bits, Group, not-group, and-group, or-group, xor-group, mux-group, out-group}
+
+-- SPLIT BYTES
+pub split-append : (xs ys : List ℕ) → split (xs ++ ys) ≡ split xs ++ split ys
+unfolding split
+split-append [] ys = refl
+split-append (x ∷ xs) ys = rw (split-append xs ys)
+
+pub split-length : (l : List ℕ) → length (split l) ≡ 2 * length l
+unfolding split
+split-length [] = refl
+split-length (x ∷ l) = let h = split-length l in omega arith
+
+two-more : (n : ℕ) → 2 * suc n ≡ suc (suc (2 * n))
+two-more n = omega arith
+
+pub split-take : (n : ℕ) (l : List ℕ) → take (2 * n) (split l) ≡ split (take n l)
+unfolding split
+split-take zero l = refl
+split-take (suc n) [] = rw (two-more n)
+split-take (suc n) (x ∷ l) = rw (two-more n, split-take n l)
+
+pub split-drop : (n : ℕ) (l : List ℕ) → drop (2 * n) (split l) ≡ split (drop n l)
+unfolding split
+split-drop zero l = refl
+split-drop (suc n) [] = rw (two-more n)
+split-drop (suc n) (x ∷ l) = rw (two-more n) (split-drop n l)
+
+split-rest : (l : List ℕ) → drop 1 (drop 1 (split l)) ≡ split (drop 1 l)
+split-rest l = drop-drop 1 1 (split l) ∙ split-drop 1 l
+
+codes-split : {xs ys : List ℕ} → Forall₂ Code xs ys → Forall₂ Code (split xs) (split ys)
+unfolding split
+codes-split Forall₂·nil = Forall₂·nil
+codes-split (Forall₂·cons {a = x} h t) =
+    let v : x % 2 ≤ 3 = omega arith in
+    let m : x / 2 ≤ 3 = omega arith in
+    Forall₂·cons v (Forall₂·cons m (codes-split t))
+
+pub split-codes : {xs : List ℕ} → Codes xs → Codes (split xs)
+split-codes h = codes-split h
+
+-- they are plain values
+pub split-plain : {xs ys : List ℕ} → Forall₂ Code xs ys → map (λ x. x % 2) (split xs) ≡ split xs
+unfolding split
+split-plain Forall₂·nil = refl
+split-plain (Forall₂·cons {a = x} h t) =
+    let v : x % 2 % 2 ≡ x % 2 = omega arith in
+    let m : x / 2 % 2 ≡ x / 2 = omega arith in
+    rw (v, m, split-plain t)
+
+first-splits : (r : List ℕ) → Codes r → Splits (getD r 0 0) (getD (split r) 0 0 ∷ getD (drop 1 (split r)) 0 0 ∷ [])
+unfolding split
+first-splits [] h = byte-splits 0 (lit≤ tt)
+first-splits (x ∷ r) h = byte-splits x (pairs-getD 0 0 (lit≤ tt) h)
+
+-- THE WALK. The walk w past i nets of xs, and the walk d past their groups
+pub record Follows (xs : List Net) (i : ℕ) (w d : Walk) : Type 0 where
+  pub passed : length (w .bytes) ≡ i
+  pub size : length (d .bytes) ≡ valueNet xs i
+  pub codes : Codes (w .bytes)
+  pub value : (j : ℕ) → j < i → getD (d .bytes) (valueNet xs j) 0 ≡ getD (w .bytes) j 0 % 2
+  pub mark : (j : ℕ) → j < i → getD (d .bytes) (markNet xs j) 0 ≡ getD (w .bytes) j 0 / 2
+  pub row : d .row ≡ split (w .row)
+  pub state : d .state ≡ split (w .state)
+  pub row-codes : Codes (w .row)
+  pub state-codes : Codes (w .state)
+
+below-or : (j i : ℕ) → j < suc i → (j < i) ⊎ (j ≡ i)
+below-or j i h = elim (decLt j i) [ yes k ↦ inl k | no k ↦ inr (omega arith) ]
+
+module _ {xs : List Net} {n i : ℕ} {w d : Walk} (ps : AllPass n 0 xs) (l : i < length xs) (f : Follows xs i w d)
+    (x : ℕ) (es r s r′ s′ : List ℕ) (sp : Splits x es) (m : valueNet xs (suc i) ≡ valueNet xs i + length es) where
+  mark-is : markNet xs i ≡ valueNet xs i + (length es - 1)
+  unfolding markNet valueNet
+  mark-is = omega arith
+
+  first-at : getD (d .bytes ++ es) (valueNet xs i) 0 ≡ x % 2
+  first-at = ap (λ p. getD (d .bytes ++ es) p 0) (sym (f .size) ∙ sym (add-zero _)) ∙ getD-append-add (d .bytes) es 0 0 ∙ sp .first
+
+  last-at : getD (d .bytes ++ es) (markNet xs i) 0 ≡ x / 2
+  last-at =
+      ap (λ p. getD (d .bytes ++ es) p 0) (mark-is ∙ ap (λ v. v + (length es - 1)) (sym (f .size)))
+      ∙ getD-append-add (d .bytes) es (length es - 1) 0
+      ∙ sp .last
+
+  byte-at : getD (w .bytes ++ (x ∷ [])) i 0 ≡ x
+  byte-at = rw (← (f .passed)) (getD-append-seam (w .bytes) x [] 0)
+
+  -- a byte g x of each net's byte x, at the net p of its group
+  each-shows : (p : ℕ → ℕ) (g : ℕ → ℕ) → ((j : ℕ) → j < i → p j < valueNet xs i) → ((j : ℕ) → j < i → getD (d .bytes) (p j) 0 ≡ g (getD (w .bytes) j 0))
+      → getD (d .bytes ++ es) (p i) 0 ≡ g x → (j : ℕ) → j < suc i → getD (d .bytes ++ es) (p j) 0 ≡ g (getD (w .bytes ++ (x ∷ [])) j 0)
+  each-shows p g inside before here j h =
+      elim (below-or j i h) [
+        | inl k ↦ rw (List·getD-append (w .bytes) (x ∷ []) 0 j (omega arith), List·getD-append (d .bytes) es 0 (p j) (omega (arith, inside j k))) (before j k)
+        | inr e ↦ rw (e, byte-at) here
+      ]
+
+  extend : r′ ≡ split r → s′ ≡ split s → Codes r → Codes s → Follows xs (suc i) (at (w .bytes ++ (x ∷ [])) r s) (at (d .bytes ++ es) r′ s′)
+  extend er es′ br bs =
+      record {
+        passed = rw length-append (omega arith);
+        size = rw length-append (omega arith);
+        codes = pairs-append (f .codes) (Forall₂·cons (sp .fits) Forall₂·nil);
+        value = each-shows (valueNet xs) (λ x. x % 2) (λ j k. omega (arith, value-below xs n ps j i k (omega arith))) (f .value) first-at;
+        mark = each-shows (markNet xs) (λ x. x / 2) (λ j k. mark-below xs n ps j i k (omega arith)) (f .mark) last-at;
+        row = er;
+        state = es′;
+        row-codes = br;
+        state-codes = bs;
+      }
+
+-- past one net, and past its group
+module _ {xs : List Net} {n i : ℕ} {w d : Walk} (ps : AllPass n 0 xs) (l : i < length xs) (f : Follows xs i w d) where
+  abbrev v : ℕ
+  v = valueNet xs i
+
+  bits : (j : ℕ) → j < i → Bits (d .bytes) v (valueNet xs j) (markNet xs j) (getD (w .bytes) j 0)
+  bits j h =
+      record {
+        value-in = omega (arith, value-below xs n ps j i h (omega arith));
+        mark-in = mark-below xs n ps j i h (omega arith);
+        value-is = f .value j h;
+        mark-is = f .mark j h;
+      }
+
+  fits : (j : ℕ) → getD (w .bytes) j 0 ≤ 3
+  fits j = pairs-getD j 0 (lit≤ tt) (f .codes)
+
+  abbrev Shown : (k a b c : ℕ) → Type 0
+  Shown = Group (w .bytes) (d .bytes) i v (valueNet xs) (markNet xs) bits fits
+
+  gate-step : (k a b c : ℕ) → 3 ≤ k → Shown k a b c → valueNet xs (suc i) ≡ v + groupLength k
+      → Follows xs (suc i) (past gateByte (net k a b c) w) (walk gateByte (groupAt xs i (net k a b c)) d)
+  gate-step k a b c h g m =
+      let long = comes-length (g .comes) in
+      let group = group-length xs i (net k a b c) in
+      rw (past-gate k a b c w h, walked-all (d .row) (d .state) (f .size) (g .comes))
+      (extend ps l f _ (g .bytes) (w .row) (w .state) (d .row) (d .state) (g .splits) (omega arith) (f .row) (f .state) (f .row-codes) (f .state-codes))
+
+  step : {y : Net} → Passes n i y → valueNet xs (suc i) ≡ v + groupLength (y .kind) → Follows xs (suc i) (past gateByte y w) (walk gateByte (groupAt xs i y) d)
+  step (is-const {a} h) m =
+      unfold groupLength groupLengths groupOf past walk netByte in
+      rw (append-assoc (d .bytes) (a ∷ []) (0 ∷ []))
+      (extend ps l f a (a ∷ 0 ∷ []) (w .row) (w .state) (d .row) (d .state) (const-splits a h) m (f .row) (f .state) (f .row-codes) (f .state-codes))
+  step is-input m =
+      unfold groupLength groupLengths groupOf past walk netByte in
+      rw (append-assoc (d .bytes) (getD (d .row) 0 0 ∷ []) (getD (drop 1 (d .row)) 0 0 ∷ []))
+      (extend ps l f (getD (w .row) 0 0) (getD (d .row) 0 0 ∷ getD (drop 1 (d .row)) 0 0 ∷ [])
+      (drop 1 (w .row)) (w .state) (drop 1 (drop 1 (d .row))) (d .state)
+      (rw (f .row) (first-splits (w .row) (f .row-codes))) m (rw (f .row) (split-rest (w .row))) (f .state) (pairs-drop 1 (f .row-codes)) (f .state-codes))
+  step (is-reg h k) m =
+      unfold groupLength groupLengths groupOf past walk netByte in
+      rw (append-assoc (d .bytes) (getD (d .state) 0 0 ∷ []) (getD (drop 1 (d .state)) 0 0 ∷ []))
+      (extend ps l f (getD (w .state) 0 0) (getD (d .state) 0 0 ∷ getD (drop 1 (d .state)) 0 0 ∷ [])
+      (w .row) (drop 1 (w .state)) (d .row) (drop 1 (drop 1 (d .state)))
+      (rw (f .state) (first-splits (w .state) (f .state-codes))) m (f .row) (rw (f .state) (split-rest (w .state))) (f .row-codes) (pairs-drop 1 (f .state-codes)))
+  step (is-not h) m = gate-step 3 _ _ _ (lit≤ tt) (not-group _ _ _ _ _ _ bits fits h) m
+  step (is-and h k) m = gate-step 4 _ _ _ (lit≤ tt) (and-group _ _ _ _ _ _ bits fits h k) m
+  step (is-or h k) m = gate-step 5 _ _ _ (lit≤ tt) (or-group _ _ _ _ _ _ bits fits h k) m
+  step (is-xor h k) m = gate-step 6 _ _ _ (lit≤ tt) (xor-group _ _ _ _ _ _ bits fits h k) m
+  step (is-mux h k o) m = gate-step 7 _ _ _ (lit≤ tt) (mux-group _ _ _ _ _ _ bits fits h k o) m
+  step (is-out {b = b} h k) m = gate-step 8 _ _ _ (lit≤ tt) (out-group _ _ _ _ _ _ bits fits b h) m
+
+walk-append : (gs hs : List Net) (w : Walk) → walk gateByte (gs ++ hs) w ≡ walk gateByte hs (walk gateByte gs w)
+unfolding walk
+walk-append [] hs w = refl
+walk-append (g ∷ gs) hs w = walk-append gs hs (past gateByte g w)
+
+follow :
+    {xs : List Net} {n : ℕ} → AllPass n 0 xs → n ≡ length xs
+    → {i : ℕ} {ys : List Net} {w d : Walk} → AllPass n i ys → Laid xs i ys → i + length ys ≡ n
+    → Follows xs i w d → Follows xs n (walk gateByte ys w) (walk gateByte (groupsFrom xs i ys) d)
+unfolding walk groupsFrom
+follow {xs} ps e {w = w} {d = d} (nil {i}) (end l) h f = subst (λ m. Follows xs m w d) (let k : i ≡ _ = omega arith in k) f
+follow {xs} {n} ps e {w = w} {d = d} (cons {i = i} {x = y} {xs = ys} p qs) (next m ls) h f =
+    rw (walk-append (groupAt xs i y) (groupsFrom xs (suc i) ys) d)
+    (follow ps e qs ls (omega arith) (step ps (omega arith) f p m))
+
+begins : (xs : List Net) (row st : List ℕ) → Codes row → Codes st → Follows xs 0 (at [] row st) (at [] (split row) (split st))
+unfolding valueNet doubledSize
+begins xs row st br bs =
+    record {
+      passed = refl;
+      size = refl;
+      codes = Forall₂·nil;
+      value = λ j h. absurd (omega arith);
+      mark = λ j h. absurd (omega arith);
+      row = refl;
+      state = refl;
+      row-codes = br;
+      state-codes = bs;
+    }
+
+-- from the start of a cycle to its end
+pub cycle-follows : {xs : List Net} {n : ℕ} (row st : List ℕ) → AllPass n 0 xs → n ≡ length xs → Codes row → Codes st
+    → Follows xs n (walk gateByte xs (at [] row st)) (walk gateByte (doubledNets xs) (at [] (split row) (split st)))
+unfolding doubledNets
+cycle-follows {xs} row st ps e br bs = follow ps e ps (laid xs) (omega arith) (begins xs row st br bs)
+
+-- OUTPUTS, CLOCK AND POWER-UP. What is read off the bytes of a cycle, group by group
+cond-append : (c : Bool) (xs ys zs : List ℕ) → cond c (xs ++ zs) (ys ++ zs) ≡ cond c xs ys ++ zs
+cond-append true xs ys zs = refl
+cond-append false xs ys zs = refl
+
+outputs-append : (i : ℕ) (gs hs : List Net) (bs : List ℕ) → outputsFrom i (gs ++ hs) bs ≡ outputsFrom i gs bs ++ outputsFrom (i + length gs) hs bs
+unfolding outputsFrom
+outputs-append i [] hs bs = rw add-zero
+outputs-append i (g ∷ gs) hs bs =
+    let e : i + suc (length gs) ≡ suc i + length gs = omega arith in
+    rw (e, outputs-append (suc i) gs hs bs) (cond-append (eqb (g .kind) 8) (getD bs i 0 ∷ outputsFrom (suc i) gs bs) (outputsFrom (suc i) gs bs) _)
+
+registers-append : (f : Net → ℕ) (gs hs : List Net) → registers f (gs ++ hs) ≡ registers f gs ++ registers f hs
+unfolding registers
+registers-append f [] hs = refl
+registers-append f (g ∷ gs) hs = rw (registers-append f gs hs) (cond-append (eqb (g .kind) 2) (f g ∷ registers f gs) (registers f gs) _)
+
+-- the two registers of a register take the value and the mark of what it takes
+module _ (f f′ : Net → ℕ) {n : ℕ} (xs : List Net)
+    (value : (a b : ℕ) → a < n → f′ (net 2 (valueNet xs a) b 0) ≡ f (net 2 a b 0) % 2)
+    (mark : (a b : ℕ) → a < n → f′ (net 2 (markNet xs a) 0 0) ≡ f (net 2 a b 0) / 2) where
+  group-registers : {i : ℕ} {y : Net} → Passes n i y → registers f′ (groupAt xs i y) ≡ split (registers f (y ∷ []))
+  unfolding groupOf registers split
+  group-registers (is-const h) = refl
+  group-registers is-input = refl
+  group-registers (is-reg {a} {b} h k) = rw (value a b h, mark a b h)
+  group-registers (is-not h) = refl
+  group-registers (is-and h k) = refl
+  group-registers (is-or h k) = refl
+  group-registers (is-xor h k) = refl
+  group-registers (is-mux h k o) = refl
+  group-registers (is-out h k) = refl
+
+  groups-registers : {i : ℕ} {ys : List Net} → AllPass n i ys → registers f′ (groupsFrom xs i ys) ≡ split (registers f ys)
+  unfolding groupsFrom
+  groups-registers nil = unfold registers split in refl
+  groups-registers (cons {i = i} {x = y} {xs = ys} p ps) =
+      rw (
+        registers-append f′ (groupAt xs i y) (groupsFrom xs (suc i) ys),
+        registers-append f (y ∷ []) ys,
+        split-append (registers f (y ∷ [])) (registers f ys),
+      )
+      (ap₂ (λ (a b : List ℕ). a ++ b) (group-registers p) (groups-registers ps))
+
+-- a start is a plain value, and the mark register's start is 0
+start-splits : (b : ℕ) → (start b ≡ start b % 2) × (start 0 ≡ start b / 2)
+unfolding start
+start-splits b = plain (eqb b 1)
+  where
+    plain : (c : Bool) → (cond c 1 0 ≡ cond c 1 0 % 2) × (0 ≡ cond c 1 0 / 2)
+    plain true = (refl, refl)
+    plain false = (refl, refl)
+
+pub starts-split : {xs : List Net} {n : ℕ} → AllPass n 0 xs → starts (doubledNets xs) ≡ split (starts xs)
+unfolding starts doubledNets
+starts-split {xs} ps = groups-registers _ _ xs (λ a b h. start-splits b .0) (λ a b h. start-splits b .1) ps
+
+-- bytes bs of all n nets of xs, and the bytes ds of their groups
+module _ (xs : List Net) {n : ℕ} (bs ds : List ℕ)
+    (value : (j : ℕ) → j < n → getD ds (valueNet xs j) 0 ≡ getD bs j 0 % 2)
+    (mark : (j : ℕ) → j < n → getD ds (markNet xs j) 0 ≡ getD bs j 0 / 2) where
+  clocked-split : AllPass n 0 xs → clocked (doubledNets xs) ds ≡ split (clocked xs bs)
+  unfolding clocked doubledNets pinByte
+  clocked-split ps = groups-registers _ _ xs (λ a b h. value a h) (λ a b h. mark a h) ps
+
+  group-outputs : {i : ℕ} {y : Net} → i < n → Passes n i y → valueNet xs (suc i) ≡ valueNet xs i + groupLength (y .kind)
+      → outputsFrom (valueNet xs i) (groupAt xs i y) ds ≡ split (outputsFrom i (y ∷ []) bs)
+  unfolding groupOf groupLength groupLengths outputsFrom split
+  group-outputs l (is-const h) m = refl
+  group-outputs l is-input m = refl
+  group-outputs l (is-reg h k) m = refl
+  group-outputs l (is-not h) m = refl
+  group-outputs l (is-and h k) m = refl
+  group-outputs l (is-or h k) m = refl
+  group-outputs l (is-xor h k) m = refl
+  group-outputs l (is-mux h k o) m = refl
+  group-outputs {i} l (is-out h k) m = let e = mark-second xs i m in rw (← e, value i l, mark i l)
+
+  groups-outputs : {i : ℕ} {ys : List Net} → AllPass n i ys → Laid xs i ys → i + length ys ≡ n
+      → outputsFrom (valueNet xs i) (groupsFrom xs i ys) ds ≡ split (outputsFrom i ys bs)
+  unfolding groupsFrom
+  groups-outputs nil (end l) h = unfold outputsFrom split in refl
+  groups-outputs (cons {i = i} {x = y} {xs = ys} p ps) (next m ls) h =
+      let e : valueNet xs i + length (groupAt xs i y) ≡ valueNet xs (suc i) = rw (group-length xs i y) (sym m) in
+      let o : outputsFrom i (y ∷ ys) bs ≡ outputsFrom i (y ∷ []) bs ++ outputsFrom (suc i) ys bs = rw add-one at (outputs-append i (y ∷ []) ys bs) in
+      rw (
+        outputs-append (valueNet xs i) (groupAt xs i y) (groupsFrom xs (suc i) ys) ds,
+        e,
+        o,
+        split-append (outputsFrom i (y ∷ []) bs) (outputsFrom (suc i) ys bs),
+      )
+      (ap₂ (λ (a b : List ℕ). a ++ b) (group-outputs (omega arith) p m) (groups-outputs ps ls (omega arith)))
+
+-- ONE CYCLE
+abbrev doubledCycle : List Net → (row st : List ℕ) → Cycle
+doubledCycle xs row st = cycleOf (doubledNets xs) (split row) (split st)
+
+pub record CycleSplits (xs : List Net) (row st : List ℕ) : Type 0 where
+  pub values : (j : ℕ) → j < length xs → getD (doubledCycle xs row st .bytes) (valueNet xs j) 0 ≡ getD (cycleOf xs row st .bytes) j 0 % 2
+  pub marks : (j : ℕ) → j < length xs → getD (doubledCycle xs row st .bytes) (markNet xs j) 0 ≡ getD (cycleOf xs row st .bytes) j 0 / 2
+  pub outputs : doubledCycle xs row st .outputs ≡ split (cycleOf xs row st .outputs)
+  pub state : doubledCycle xs row st .state ≡ split (cycleOf xs row st .state)
+
+pub cycle-splits : {xs : List Net} {n : ℕ} (row st : List ℕ) → AllPass n 0 xs → n ≡ length xs → Codes row → Codes st → CycleSplits xs row st
+unfolding cycleOf bytesOf
+cycle-splits {xs} {n} row st ps e br bs =
+    let f = cycle-follows row st ps e br bs in
+    let b = walk gateByte xs (at [] row st) .bytes in
+    let d = walk gateByte (doubledNets xs) (at [] (split row) (split st)) .bytes in
+    record {
+      values = λ j h. f .value j (omega arith);
+      marks = λ j h. f .mark j (omega arith);
+      outputs = unfold doubledNets valueNet doubledSize in groups-outputs xs b d (f .value) (f .mark) ps (laid xs) (omega arith);
+      state = clocked-split xs b d (f .value) (f .mark) ps;
+    }

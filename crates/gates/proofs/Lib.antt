@@ -1,0 +1,3 @@
+-- Laws of the gate rules and of tables.
+pub mod Laws
+mod Entries

@@ -1,0 +1,14 @@
+-- The gate rules as a table: a code for each kind, 0 to 8, and for each byte of the three pins.
+use Prim.Native.Nat.{ℕ, _+_, _*_, _<_}
+use mathlib.Core.Path.{_≡_}
+use mathlib.Core.List.{List}
+use lib.ListN.{getD}
+use Rattle.gates.specs.Rules.{gateByte}
+
+-- where a code stands: by kind, then by the bytes of the pins a, b and c
+abbrev pub place : (kind a b c : ℕ) → ℕ
+place kind a b c = ((kind * 4 + a) * 4 + b) * 4 + c
+
+-- a table whose every code is the byte of its gate
+pub record GateTable (t : List ℕ) : Type 0 where
+  pub codes : (kind a b c : ℕ) → kind < 9 → a < 4 → b < 4 → c < 4 → getD t (place kind a b c) 0 ≡ gateByte kind a b c

@@ -1,0 +1,150 @@
+-- What an accepted image is: each net by its kind, with the bounds on its operands; and the counts.
+use Prim.Native.Nat.{ℕ, zero, suc, _+_, _*_, _≤_, _<_}
+use mathlib.Core.Logic.{_↔_}
+use mathlib.Core.Path.{_≡_, refl, ap}
+use mathlib.Core.List.{List, [], _∷_}
+use mathlib.Core.Option.{none}
+use mathlib.Core.Bool.{false, _&&_, not}
+use native.Mathlib.Omega.{arith}
+use lib.Dec.{eqb, leb, ltb}
+use lib.ListN.{length}
+use borrow.Author.Tests.{ltb-false, leb-false, le-ltb, lt-leb}
+use Rattle.netlist.specs.declared.image.Net.{Net}
+use Rattle.netlist.specs.Image.{sizesOf, net, netsFrom, netsOf, count}
+use Rattle.netlist.specs.Kinds.{CONST, INPUT, REG, OUT, listsA, listsB, listsC, pinA, pinB, pinC}
+use Rattle.netlist.specs.Check.{netRefusal, netsRefusal, checkRefusal}
+use Rattle.netlist.proofs.Refusals.{then-none, not-other, accepted}
+
+-- net x passes as net i of n
+pub data Passes (n i : ℕ) : Net → Type 0 where
+  is-const : {a : ℕ} → a ≤ 1 → Passes n i (net 0 a 0 0)
+  is-input : Passes n i (net 1 0 0 0)
+  is-reg : {a b : ℕ} → a < n → b ≤ 2 → Passes n i (net 2 a b 0)
+  is-not : {a : ℕ} → a < i → Passes n i (net 3 a 0 0)
+  is-and : {a b : ℕ} → a < i → b < i → Passes n i (net 4 a b 0)
+  is-or : {a b : ℕ} → a < i → b < i → Passes n i (net 5 a b 0)
+  is-xor : {a b : ℕ} → a < i → b < i → Passes n i (net 6 a b 0)
+  is-mux : {a b c : ℕ} → a < i → b < i → c < i → Passes n i (net 7 a b c)
+  is-out : {a b : ℕ} → a < i → b ≤ 1 → Passes n i (net 8 a b 0)
+
+-- the nets of a list, the first of which is net i
+pub data AllPass (n : ℕ) : ℕ → List Net → Type 0 where
+  nil : {i : ℕ} → AllPass n i []
+  cons : {i : ℕ} {x : Net} {xs : List Net} → Passes n i x → AllPass n (suc i) xs → AllPass n i (x ∷ xs)
+
+-- the tests of a net, one by one
+record Tests (n i k a b c : ℕ) : Type 0 where
+  kind : k ≤ 8
+  clock : (eqb k REG && leb n a) ≡ false
+  pin-a : (pinA k && leb i a) ≡ false
+  pin-b : (pinB k && leb i b) ≡ false
+  pin-c : (pinC k && leb i c) ≡ false
+  const : (eqb k CONST && ltb 1 a) ≡ false
+  start : (eqb k REG && ltb 2 b) ≡ false
+  policy : (eqb k OUT && ltb 1 b) ≡ false
+  no-a : (not (listsA k) && not (eqb a 0)) ≡ false
+  no-b : (not (listsB k) && not (eqb b 0)) ≡ false
+  no-c : (not (listsC k) && not (eqb c 0)) ≡ false
+
+zero-is : (a : ℕ) → not (eqb a 0) ≡ false → a ≡ 0
+zero-is a = not-other a 0 .0
+
+by-kind : (n i k a b c : ℕ) → Tests n i k a b c → Passes n i (net k a b c)
+by-kind n i zero a b c t = rw (zero-is b (t .no-b), zero-is c (t .no-c)) (is-const (ltb-false 1 a (t .const)))
+by-kind n i (suc zero) a b c t = rw (zero-is a (t .no-a), zero-is b (t .no-b), zero-is c (t .no-c)) is-input
+by-kind n i (suc (suc zero)) a b c t = rw (zero-is c (t .no-c)) (is-reg (leb-false n a (t .clock)) (ltb-false 2 b (t .start)))
+by-kind n i (suc (suc (suc zero))) a b c t = rw (zero-is b (t .no-b), zero-is c (t .no-c)) (is-not (leb-false i a (t .pin-a)))
+by-kind n i (suc (suc (suc (suc zero)))) a b c t = rw (zero-is c (t .no-c)) (is-and (leb-false i a (t .pin-a)) (leb-false i b (t .pin-b)))
+by-kind n i (suc (suc (suc (suc (suc zero))))) a b c t = rw (zero-is c (t .no-c)) (is-or (leb-false i a (t .pin-a)) (leb-false i b (t .pin-b)))
+by-kind n i (suc (suc (suc (suc (suc (suc zero)))))) a b c t = rw (zero-is c (t .no-c)) (is-xor (leb-false i a (t .pin-a)) (leb-false i b (t .pin-b)))
+by-kind n i (suc (suc (suc (suc (suc (suc (suc zero))))))) a b c t = is-mux (leb-false i a (t .pin-a)) (leb-false i b (t .pin-b)) (leb-false i c (t .pin-c))
+by-kind n i (suc (suc (suc (suc (suc (suc (suc (suc zero)))))))) a b c t = rw (zero-is c (t .no-c)) (is-out (leb-false i a (t .pin-a)) (ltb-false 1 b (t .policy)))
+by-kind n i (suc (suc (suc (suc (suc (suc (suc (suc (suc k))))))))) a b c t = absurd (omega arith)
+
+passes : (n i : ℕ) (x : Net) → netRefusal n i x ≡ none → Passes n i x
+unfolding netRefusal
+passes n i x h =
+    let t4 = simp accepted at h in
+    let t5 = t4 .1 .0 in
+    let t6 = t4 .1 .1 .0 in
+    let t7 = t4 .1 .1 .1 in
+    by-kind n i (x .kind) (x .a) (x .b) (x .c)
+    (record {
+      kind = t4 .0;
+      clock = t5 .0 .0 .0;
+      pin-a = t5 .0 .0 .1;
+      pin-b = t5 .0 .1;
+      pin-c = t5 .1;
+      const = t6 .0 .0;
+      start = t6 .0 .1;
+      policy = t6 .1;
+      no-a = t7 .0 .0;
+      no-b = t7 .0 .1;
+      no-c = t7 .1;
+    })
+
+no-refusal : {n i : ℕ} {x : Net} → Passes n i x → netRefusal n i x ≡ none
+unfolding netRefusal
+no-refusal {n} {i} (is-const {a} h) = rw (le-ltb 1 a h)
+no-refusal {n} {i} is-input = refl
+no-refusal {n} {i} (is-reg {a} {b} h k) = rw (lt-leb n a h, le-ltb 2 b k)
+no-refusal {n} {i} (is-not {a} h) = rw (lt-leb i a h)
+no-refusal {n} {i} (is-and {a} {b} h k) = rw (lt-leb i a h, lt-leb i b k)
+no-refusal {n} {i} (is-or {a} {b} h k) = rw (lt-leb i a h, lt-leb i b k)
+no-refusal {n} {i} (is-xor {a} {b} h k) = rw (lt-leb i a h, lt-leb i b k)
+no-refusal {n} {i} (is-mux {a} {b} {c} h k l) = rw (lt-leb i a h, lt-leb i b k, lt-leb i c l)
+no-refusal {n} {i} (is-out {a} {b} h k) = rw (lt-leb i a h, le-ltb 1 b k)
+
+all-pass : (n i : ℕ) (xs : List Net) → netsRefusal n i xs ≡ none → AllPass n i xs
+unfolding netsRefusal
+all-pass n i [] h = nil
+all-pass n i (x ∷ xs) h = let t = then-none _ _ .0 h in cons (passes n i x (t .0)) (all-pass n (suc i) xs (t .1))
+
+no-refusals : {n i : ℕ} {xs : List Net} → AllPass n i xs → netsRefusal n i xs ≡ none
+unfolding netsRefusal
+no-refusals nil = refl
+no-refusals (cons p ps) = then-none _ _ .1 (no-refusal p, no-refusals ps)
+
+nets-none : (n i : ℕ) (xs : List Net) → (netsRefusal n i xs ≡ none) ↔ AllPass n i xs
+nets-none n i xs = (all-pass n i xs, no-refusals)
+
+-- an image that draws none of 1 to 8
+pub record Checked (s : List ℕ) : Type 0 where
+  pub some-nets : 0 < sizesOf s .nets
+  pub few-nets : sizesOf s .nets ≤ 8192
+  pub exact : length s ≡ 8 + 7 * sizesOf s .nets
+  pub nets : AllPass (sizesOf s .nets) 0 (netsOf s)
+  pub inputs : sizesOf s .inputs ≡ count INPUT (netsOf s)
+  pub registers : sizesOf s .registers ≡ count REG (netsOf s)
+  pub outputs : sizesOf s .outputs ≡ count OUT (netsOf s)
+
+pub check-none : (s : List ℕ) → (checkRefusal s ≡ none) ↔ Checked s
+unfolding checkRefusal
+check-none s = (
+  λ h.
+      let t = simp (accepted, nets-none) at h in
+      let nets = t .1 .1 .1 .0 in
+      let counts = t .1 .1 .1 .1 in
+      record {
+        some-nets = omega (arith, t .1 .0 .0);
+        few-nets = t .1 .0 .1;
+        exact = t .1 .1 .0;
+        nets = nets;
+        inputs = counts .0 .0;
+        registers = counts .0 .1;
+        outputs = counts .1;
+      },
+  λ c.
+      simp (accepted, nets-none)
+      (omega arith, (((λ e. omega arith), c .few-nets), (c .exact, (c .nets, ((c .inputs, c .registers), c .outputs))))),
+)
+
+-- the nets of an image are as many as it says
+nets-length : (s : List ℕ) (n i k : ℕ) → length (netsFrom s n i k) ≡ k
+unfolding netsFrom
+nets-length s n i zero = refl
+nets-length s n i (suc k) = ap suc (nets-length s n (suc i) k)
+
+pub length-nets : (s : List ℕ) → length (netsOf s) ≡ sizesOf s .nets
+unfolding netsOf
+length-nets s = nets-length s _ 0 _

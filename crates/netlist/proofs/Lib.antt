@@ -1,0 +1,6 @@
+-- Laws of images and of refusals, and of lists related place by place.
+pub mod Pairs
+pub mod Refusals
+pub mod Nets
+pub mod Checked
+pub mod Encoding

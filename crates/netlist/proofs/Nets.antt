@@ -1,0 +1,24 @@
+-- The nets of an image, one after the other: what a pass over them has before it at net i.
+use Prim.Native.Nat.{ℕ, suc, _+_, _-_, _<_}
+use mathlib.Core.Path.{_≡_}
+use mathlib.Core.List.{List, [], _∷_}
+use native.Mathlib.Numerals.{add-one}
+use native.Mathlib.Omega.{arith}
+use Rattle.netlist.specs.declared.image.Net.{Net}
+use Rattle.netlist.specs.Image.{netAt, netsFrom}
+
+-- the nets from net i on, of an image of n nets
+abbrev pub netsLeft : List ℕ → ℕ → ℕ → List Net
+netsLeft s n i = netsFrom s n i (n - i)
+
+module _ (s : List ℕ) (n : ℕ) where
+  pub nets-all : netsLeft s n 0 ≡ netsFrom s n 0 n
+  nets-all = let e : n - 0 ≡ n = omega arith in rw e
+
+  pub nets-next : (i : ℕ) → i < n → netsLeft s n i ≡ netAt s n i ∷ netsLeft s n (i + 1)
+  unfolding netsFrom
+  nets-next i h = let e : n - i ≡ suc (n - suc i) = omega arith in rw (add-one, e)
+
+  pub nets-done : (i : ℕ) → n - i ≡ 0 → netsLeft s n i ≡ []
+  unfolding netsFrom
+  nets-done i e = rw e

@@ -1,0 +1,53 @@
+-- The image: four u16 sizes, then N kind bytes, then N entries of three u16 operands. `Sizes` and `Net` are the structs of src/image.rt.
+use Prim.Native.Nat.{ℕ, zero, suc, _+_, _*_, _/_, _%_}
+use mathlib.Core.List.{List, [], _∷_, _++_, map}
+use mathlib.Core.Bool.{cond}
+use lib.Dec.{eqb}
+use lib.ListN.{getD}
+use Rattle.netlist.specs.declared.image.Sizes.{Sizes}
+use Rattle.netlist.specs.declared.image.Net.{Net}
+
+-- a u16 is two bytes, low byte first
+abbrev pub u16At : List ℕ → ℕ → ℕ
+u16At s p = getD s p 0 + 256 * getD s (p + 1) 0
+
+-- N nets, I inputs, R registers, O outputs
+unfoldable pub sizesOf : List ℕ → Sizes
+sizesOf s = record { nets = u16At s 0; inputs = u16At s 2; registers = u16At s 4; outputs = u16At s 6 }
+
+abbrev pub net : ℕ → ℕ → ℕ → ℕ → Net
+net k a b c = record { kind = k; a = a; b = b; c = c }
+
+-- net i of an image of n nets
+unfoldable pub netAt : List ℕ → ℕ → ℕ → Net
+netAt s n i =
+    record {
+      kind = getD s (8 + i) 0;
+      a = u16At s (8 + n + 6 * i);
+      b = u16At s (8 + n + 6 * i + 2);
+      c = u16At s (8 + n + 6 * i + 4);
+    }
+
+-- k nets of it, from net i on
+unfoldable pub netsFrom : List ℕ → ℕ → ℕ → ℕ → List Net
+netsFrom s n i zero = []
+netsFrom s n i (suc k) = netAt s n i ∷ netsFrom s n (suc i) k
+
+unfoldable pub netsOf : List ℕ → List Net
+netsOf s = netsFrom s (sizesOf s .nets) 0 (sizesOf s .nets)
+
+-- how many nets are of kind k
+unfoldable pub count : ℕ → List Net → ℕ
+count k [] = 0
+count k (x ∷ xs) = cond (eqb (x .kind) k) 1 0 + count k xs
+
+-- the other way round: the image of some nets, with the sizes that it is to say
+abbrev pub u16 : ℕ → List ℕ
+u16 n = n % 256 ∷ n / 256 ∷ []
+
+abbrev pub operands : List Net → List ℕ
+operands [] = []
+operands (x ∷ xs) = u16 (x .a) ++ u16 (x .b) ++ u16 (x .c) ++ operands xs
+
+unfoldable pub encode : Sizes → List Net → List ℕ
+encode z xs = u16 (z .nets) ++ u16 (z .inputs) ++ u16 (z .registers) ++ u16 (z .outputs) ++ map (λ x. x .kind) xs ++ operands xs

@@ -1,0 +1,59 @@
+// What stands in an image: the four sizes, then a kind byte for each net, then three operands for each net.
+ghost use mathlib.Core.Path.{_≡_};
+ghost use Prim.Native.Nat.{_+_, _*_, _<_, _≤_};
+ghost use lib.ListN.{length, getD};
+ghost use Rattle.netlist.specs.Image.{u16At, sizesOf, netAt};
+
+pub struct Sizes {
+    pub nets: usize,
+    pub inputs: usize,
+    pub registers: usize,
+    pub outputs: usize,
+}
+
+pub struct Net {
+    pub kind: u8,
+    pub a: usize,
+    pub b: usize,
+    pub c: usize,
+}
+
+fn wide(x: u8) -> usize
+    ensures { λ r. ⌜ (r ≡ x) × (r < 256) ⌝ }
+{
+    x as usize
+}
+
+// The u16 whose low byte stands at p.
+pub fn u16_at(s: &[u8], p: usize) -> usize
+    requires { ⌜ p + 1 < length (now s) ⌝ }
+    ensures { λ r. ⌜ (r ≡ u16At (now (s .entry)) p) × (r < 65536) ⌝ }
+{
+    wide(s[p]) + 256 * wide(s[p + 1])
+}
+
+pub fn sizes_of(s: &[u8]) -> Sizes
+    requires { ⌜ 8 ≤ length (now s) ⌝ }
+    ensures { λ r. ⌜ r ≡ sizesOf (now (s .entry)) ⌝ }
+{
+    Sizes {
+        nets: u16_at(s, 0),
+        inputs: u16_at(s, 2),
+        registers: u16_at(s, 4),
+        outputs: u16_at(s, 6),
+    }
+}
+
+// Net i of an image of n nets.
+pub fn net_at(s: &[u8], n: usize, i: usize) -> Net
+    requires { ⌜ (i < n) × (length (now s) ≡ 8 + 7 * n) ⌝ }
+    ensures { λ r. ⌜ r ≡ netAt (now (s .entry)) n i ⌝ }
+{
+    let p = 8 + n + 6 * i;
+    Net {
+        kind: s[8 + i],
+        a: u16_at(s, p),
+        b: u16_at(s, p + 2),
+        c: u16_at(s, p + 4),
+    }
+}

@@ -1,0 +1,16 @@
+// The netlist image: readers of what stands in it, and its checking.
+mod answer;
+mod checking;
+mod image;
+mod kinds;
+mod net;
+
+pub use answer::Outcome;
+pub use answer::Refusal;
+pub use answer::refused;
+pub use checking::check;
+pub use image::Net;
+pub use image::Sizes;
+pub use image::net_at;
+pub use image::sizes_of;
+pub use image::u16_at;

@@ -1,0 +1,65 @@
+// The tests of one net: refusals 4 to 7. Each test is worked out without a branch, since the kinds of neighbouring nets differ.
+use crate::answer::Outcome;
+use crate::answer::refused;
+use crate::image::Net;
+use crate::kinds::AND;
+use crate::kinds::CONST;
+use crate::kinds::INPUT;
+use crate::kinds::MUX;
+use crate::kinds::NOT;
+use crate::kinds::OUT;
+use crate::kinds::REG;
+ghost use mathlib.Core.Path.{_≡_};
+ghost use mathlib.Core.Bool.{cond};
+ghost use Prim.Native.Nat.{_≤_};
+ghost use Rattle.netlist.specs.Check.{refusalIn, badPin, badValue, badUnlisted, netRefusal};
+
+fn bad_pin(n: usize, i: usize, x: Net) -> bool
+    ensures { λ r. ⌜ r ≡ badPin n i x ⌝ }
+{
+    (x.kind == REG) & (n <= x.a)
+        | (NOT <= x.kind) & (x.kind <= OUT) & (i <= x.a)
+        | (AND <= x.kind) & (x.kind <= MUX) & (i <= x.b)
+        | (x.kind == MUX) & (i <= x.c)
+}
+
+fn bad_value(x: Net) -> bool
+    ensures { λ r. ⌜ r ≡ badValue x ⌝ }
+{
+    (x.kind == CONST) & (1 < x.a) | (x.kind == REG) & (2 < x.b) | (x.kind == OUT) & (1 < x.b)
+}
+
+fn bad_unlisted(x: Net) -> bool
+    ensures { λ r. ⌜ r ≡ badUnlisted x ⌝ }
+{
+    let lists_a = x.kind != INPUT;
+    let lists_b = !((x.kind == CONST) | (x.kind == INPUT) | (x.kind == NOT));
+    let lists_c = x.kind == MUX;
+    !lists_a & (x.a != 0) | !lists_b & (x.b != 0) | !lists_c & (x.c != 0)
+}
+
+// Refusals 4 to 7 at net i of n.
+pub fn check_net(n: usize, i: usize, x: Net) -> Outcome
+    ensures { λ r. ⌜ refusalIn r ≡ netRefusal n i x ⌝ }
+{
+    if 8 < x.kind {
+        return refused(4, i);
+    }
+    if bad_pin(n, i, x) {
+        return refused(5, i);
+    }
+    if bad_value(x) {
+        return refused(6, i);
+    }
+    if bad_unlisted(x) {
+        return refused(7, i);
+    }
+    Outcome::Done
+}
+
+// 1 where the flag is set, and 0 where not.
+pub fn one_if(flag: bool) -> usize
+    ensures { λ r. ⌜ (r ≡ cond flag 1 0) × (r ≤ 1) ⌝ }
+{
+    flag as usize
+}

@@ -1,0 +1,87 @@
+-- What each public call answers, and what it leaves in every lent buffer. A refusal leaves each as it was.
+use Prim.Native.Nat.{ℕ, _*_}
+use mathlib.Core.List.{List}
+use mathlib.Core.Option.{Option, none, some}
+use mathlib.Core.Bool.{cond}
+use lib.Dec.{eqb, ltb}
+use Rattle.netlist.specs.declared.image.Net.{Net}
+use Rattle.netlist.specs.Image.{sizesOf, netsOf}
+use Rattle.netlist.specs.declared.answer.Refusal.{Refusal}
+use Rattle.netlist.specs.Check.{refuse, _then_, checkRefusal, badByte, badLength}
+use Rattle.tracker.specs.Cycle.{Verdict, registers, Cycle, cycleOf, cyclesOf, outputsOf, stateAfter, FirstFlow, firstFlow}
+
+pub data Answer (A : Type 0) : Type 0 where
+  done : A → Answer A
+  refused : Refusal → Answer A
+
+-- the byte that a register powers up with, by its operand b: the start value, or 0 where none is given, with mark 0
+unfoldable pub start : ℕ → ℕ
+start b = cond (eqb b 1) 1 0
+
+unfoldable pub starts : List Net → List ℕ
+starts xs = registers (λ x. start (x .b)) xs
+
+pub record PoweredUp : Type 0 where
+  pub answer : Answer Unit
+  pub state : List ℕ
+
+unfoldable pub powerUpRefusal : List ℕ → List ℕ → Option Refusal
+powerUpRefusal s st = checkRefusal s then badLength 10 (sizesOf s .registers) st
+
+unfoldable pub powerUpOf : List ℕ → List ℕ → PoweredUp
+powerUpOf s st =
+    elim (powerUpRefusal s st) [
+      | none ↦ record { answer = done tt; state = starts (netsOf s) }
+      | some r ↦ record { answer = refused r; state = st }
+    ]
+
+pub record Stepped : Type 0 where
+  pub answer : Answer Verdict
+  pub state : List ℕ
+  pub nets : List ℕ
+
+-- an accepted step, from its cycle
+unfoldable pub asStep : Cycle → Stepped
+asStep c = record { answer = done (c .verdict); state = c .state; nets = c .bytes }
+
+unfoldable pub stepRefusal : List ℕ → List ℕ → List ℕ → List ℕ → Option Refusal
+stepRefusal s st row nets =
+    checkRefusal s
+    then badLength 10 (sizesOf s .registers) st
+    then badByte 11 0 st
+    then badLength 12 (sizesOf s .inputs) row
+    then badByte 13 0 row
+    then badLength 14 (sizesOf s .nets) nets
+
+unfoldable pub stepOf : List ℕ → List ℕ → List ℕ → List ℕ → Stepped
+stepOf s st row nets =
+    elim (stepRefusal s st row nets) [
+      | none ↦ asStep (cycleOf (netsOf s) row st)
+      | some r ↦ record { answer = refused r; state = st; nets = nets }
+    ]
+
+pub record Ran : Type 0 where
+  pub answer : Answer FirstFlow
+  pub state : List ℕ
+  pub outputs : List ℕ
+
+-- an accepted run from the state st, from its cycles
+unfoldable pub asRun : List ℕ → List Cycle → Ran
+asRun st cs = record { answer = done (firstFlow 0 cs); state = stateAfter st cs; outputs = outputsOf cs }
+
+unfoldable pub runRefusal : List ℕ → List ℕ → ℕ → List ℕ → List ℕ → Option Refusal
+runRefusal s st k rows outputs =
+    checkRefusal s
+    then refuse (ltb 4096 k) 9 0
+    then badLength 10 (sizesOf s .registers) st
+    then badByte 11 0 st
+    then badLength 12 (k * sizesOf s .inputs) rows
+    then badByte 13 0 rows
+    then badLength 14 (k * sizesOf s .outputs) outputs
+
+unfoldable pub runOf : List ℕ → List ℕ → ℕ → List ℕ → List ℕ → Ran
+runOf s st k rows outputs =
+    elim (runRefusal s st k rows outputs) [
+      | none ↦ asRun st (cyclesOf (netsOf s) (sizesOf s .inputs) k rows st)
+      | some r ↦ record { answer = refused r; state = st; outputs = outputs }
+    ]

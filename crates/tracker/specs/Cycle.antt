@@ -1,0 +1,111 @@
+-- One clock cycle: the bytes of all nets, the verdict, the output bytes, and the registers after the clock.
+use Prim.Native.Nat.{ℕ, zero, suc}
+use mathlib.Core.List.{List, [], _∷_, _++_}
+use mathlib.Core.Bool.{_&&_, cond}
+use lib.Dec.{eqb}
+use lib.ListN.{getD, take, drop}
+use Rattle.gates.specs.Rules.{mark, gateByte}
+use Rattle.netlist.specs.declared.image.Net.{Net}
+
+-- A rule gives the byte of a net of kind 3 to 8 from its kind and the bytes of its pins.
+abbrev pub Rule : Type 0
+Rule = ℕ → ℕ → ℕ → ℕ → ℕ
+
+-- A walk through the nets: the bytes of those behind it, and the row and state bytes that no net has taken yet.
+pub record Walk : Type 0 where
+  pub bytes : List ℕ
+  pub row : List ℕ
+  pub state : List ℕ
+
+-- what a pin reads
+unfoldable pub pinByte : List ℕ → ℕ → ℕ
+pinByte bs p = getD bs p 0
+
+unfoldable pub netByte : Rule → Net → Walk → ℕ
+netByte rule x w =
+    cond (eqb (x .kind) 0) (x .a)
+    (cond (eqb (x .kind) 1) (getD (w .row) 0 0)
+    (cond (eqb (x .kind) 2) (getD (w .state) 0 0)
+    (rule (x .kind) (pinByte (w .bytes) (x .a)) (pinByte (w .bytes) (x .b)) (pinByte (w .bytes) (x .c)))))
+
+-- past one net: an INPUT takes a row byte, a REG a state byte
+unfoldable pub past : Rule → Net → Walk → Walk
+past rule x w =
+    record {
+      bytes = w .bytes ++ (netByte rule x w ∷ []);
+      row = drop (cond (eqb (x .kind) 1) 1 0) (w .row);
+      state = drop (cond (eqb (x .kind) 2) 1 0) (w .state);
+    }
+
+unfoldable pub walk : Rule → List Net → Walk → Walk
+walk rule [] w = w
+walk rule (x ∷ xs) w = walk rule xs (past rule x w)
+
+-- the bytes of all nets in a cycle
+unfoldable pub bytesOf : Rule → List Net → (row state : List ℕ) → List ℕ
+bytesOf rule xs row state = walk rule xs (record { bytes = []; row = row; state = state }) .bytes
+
+pub data Verdict : Type 0 where
+  clear : Verdict
+  flow : ℕ → Verdict
+
+-- the lowest-numbered protected OUT with mark 1 among xs, the first of which is net i
+unfoldable pub verdictFrom : ℕ → List Net → List ℕ → Verdict
+verdictFrom i [] bs = clear
+verdictFrom i (x ∷ xs) bs =
+    cond (eqb (x .kind) 8 && eqb (x .b) 1 && mark (getD bs i 0)) (flow i) (verdictFrom (suc i) xs bs)
+
+-- the bytes of the OUTs among xs, in net order
+unfoldable pub outputsFrom : ℕ → List Net → List ℕ → List ℕ
+outputsFrom i [] bs = []
+outputsFrom i (x ∷ xs) bs =
+    cond (eqb (x .kind) 8) (getD bs i 0 ∷ outputsFrom (suc i) xs bs) (outputsFrom (suc i) xs bs)
+
+-- one byte for each register among xs, in net order
+unfoldable pub registers : (Net → ℕ) → List Net → List ℕ
+registers f [] = []
+registers f (x ∷ xs) = cond (eqb (x .kind) 2) (f x ∷ registers f xs) (registers f xs)
+
+-- the clock: every register takes the byte of its net, all together
+unfoldable pub clocked : List Net → List ℕ → List ℕ
+clocked xs bs = registers (λ x. pinByte bs (x .a)) xs
+
+pub record Cycle : Type 0 where
+  pub bytes : List ℕ
+  pub verdict : Verdict
+  pub outputs : List ℕ
+  pub state : List ℕ
+
+unfoldable pub cycleOf : List Net → (row state : List ℕ) → Cycle
+cycleOf xs row state =
+    let bs = bytesOf gateByte xs row state in
+    record { bytes = bs; verdict = verdictFrom 0 xs bs; outputs = outputsFrom 0 xs bs; state = clocked xs bs }
+
+-- k cycles with rows of i bytes each, from a state
+unfoldable pub cyclesOf : List Net → (i k : ℕ) → (rows state : List ℕ) → List Cycle
+cyclesOf xs i zero rows state = []
+cyclesOf xs i (suc k) rows state =
+    let c = cycleOf xs (take i rows) state in
+    c ∷ cyclesOf xs i k (drop i rows) (c .state)
+
+unfoldable pub outputsOf : List Cycle → List ℕ
+outputsOf [] = []
+outputsOf (c ∷ cs) = c .outputs ++ outputsOf cs
+
+unfoldable pub stateAfter : List ℕ → List Cycle → List ℕ
+stateAfter state [] = state
+stateAfter state (c ∷ cs) = stateAfter (c .state) cs
+
+-- the first flow with its cycle; a clear verdict has the number of cycles
+pub record FirstFlow : Type 0 where
+  pub cycle : ℕ
+  pub verdict : Verdict
+
+unfoldable pub firstOf : ℕ → Verdict → FirstFlow → FirstFlow
+firstOf i clear later = later
+firstOf i (flow n) later = record { cycle = i; verdict = flow n }
+
+-- of cycles of which the first is cycle i
+unfoldable pub firstFlow : ℕ → List Cycle → FirstFlow
+firstFlow i [] = record { cycle = i; verdict = clear }
+firstFlow i (c ∷ cs) = firstOf i (c .verdict) (firstFlow (suc i) cs)

@@ -1,0 +1,118 @@
+//! The cycle rules of document 01: power-up, the nets, the verdict, the clock.
+
+use crate::answers::Verdict;
+use crate::gates::{and_byte, const_byte, is_marked, mux_byte, not_byte, or_byte, xor_byte};
+use crate::netlist::{Net, Netlist, Pin, Policy, Start};
+
+/// What one cycle gives: all net bytes, the verdict, and the state after the
+/// clock.
+pub(crate) struct Cycle {
+    pub nets: Vec<u8>,
+    pub verdict: Verdict,
+    pub state: Vec<u8>,
+}
+
+/// The state at power-up. Each register takes its start value, or 0 where none
+/// is given, with mark 0.
+pub(crate) fn power_up_state(netlist: &Netlist) -> Vec<u8> {
+    let mut state = Vec::new();
+    for net in &netlist.nets {
+        if let Net::Reg(_, start) = net {
+            state.push(start_byte(*start));
+        }
+    }
+    state
+}
+
+/// The byte with which a register starts.
+fn start_byte(start: Start) -> u8 {
+    match start {
+        Start::Zero => 0,
+        Start::One => 1,
+        Start::NoneGiven => 0,
+    }
+}
+
+/// One cycle works out all nets, gives the verdict, and then every register
+/// takes the byte of its net.
+pub(crate) fn work_out(netlist: &Netlist, state: &[u8], row: &[u8]) -> Cycle {
+    let nets = net_bytes(netlist, state, row);
+    let verdict = verdict(netlist, &nets);
+    let state = clock(netlist, &nets);
+    Cycle {
+        nets,
+        verdict,
+        state,
+    }
+}
+
+/// The byte that a pin reads.
+fn read(nets: &[u8], pin: Pin) -> u8 {
+    nets[pin.net]
+}
+
+/// The bytes of all nets, worked out in net order. The pins of a gate and of an
+/// OUT name nets below their own number, so those bytes are there already. A
+/// REG shows its state byte, and its pin is read at the clock alone.
+fn net_bytes(netlist: &Netlist, state: &[u8], row: &[u8]) -> Vec<u8> {
+    let mut nets: Vec<u8> = Vec::new();
+    let mut input = 0;
+    let mut register = 0;
+    for net in &netlist.nets {
+        let byte = match *net {
+            Net::Const(value) => const_byte(value),
+            Net::Input => {
+                input += 1;
+                row[input - 1]
+            }
+            Net::Reg(_, _) => {
+                register += 1;
+                state[register - 1]
+            }
+            Net::Not(a) => not_byte(read(&nets, a)),
+            Net::And(a, b) => and_byte(read(&nets, a), read(&nets, b)),
+            Net::Or(a, b) => or_byte(read(&nets, a), read(&nets, b)),
+            Net::Xor(a, b) => xor_byte(read(&nets, a), read(&nets, b)),
+            Net::Mux(a, b, c) => mux_byte(read(&nets, a), read(&nets, b), read(&nets, c)),
+            Net::Out(a, _) => read(&nets, a),
+        };
+        nets.push(byte);
+    }
+    nets
+}
+
+/// The verdict is a flow at the lowest-numbered protected OUT with mark 1, or
+/// else clear. Without any OUT it is clear.
+fn verdict(netlist: &Netlist, nets: &[u8]) -> Verdict {
+    for (number, net) in netlist.nets.iter().enumerate() {
+        if let Net::Out(_, Policy::Protected) = net {
+            if is_marked(nets[number]) {
+                return Verdict::Flow(number);
+            }
+        }
+    }
+    Verdict::Clear
+}
+
+/// The state after the clock. Every register takes the byte of its net, all
+/// together: only the net bytes of this cycle are read.
+fn clock(netlist: &Netlist, nets: &[u8]) -> Vec<u8> {
+    let mut state = Vec::new();
+    for net in &netlist.nets {
+        if let Net::Reg(pin, _) = net {
+            state.push(read(nets, *pin));
+        }
+    }
+    state
+}
+
+/// The bytes of the OUTs, in output order.
+pub(crate) fn output_bytes(netlist: &Netlist, nets: &[u8]) -> Vec<u8> {
+    let mut outputs = Vec::new();
+    for (number, net) in netlist.nets.iter().enumerate() {
+        if let Net::Out(_, _) = net {
+            outputs.push(nets[number]);
+        }
+    }
+    outputs
+}

@@ -1,0 +1,215 @@
+//! The doubled netlist of document 01.
+//!
+//! Each net becomes a group, groups in net order. The first net of a group is
+//! the value net v, the last the mark net t.
+
+use crate::answers::Refusal;
+use crate::check::{check, MOST_NETS};
+use crate::image::{image_length, write_image};
+use crate::netlist::{Net, Netlist, Pin, Policy, Start};
+
+/// Group lengths for kinds 0 to 8.
+pub const GROUP_LENGTHS: [usize; 9] = [2, 2, 2, 2, 6, 8, 2, 7, 2];
+
+/// The value net and the mark net of a group.
+#[derive(Clone, Copy)]
+struct Pair {
+    v: Pin,
+    t: Pin,
+}
+
+/// Writes the doubled netlist's image. It meets 1 to 8 and 15 to 17.
+pub fn double(image: &[u8], buffer: &mut [u8]) -> Result<(), Refusal> {
+    let netlist = check(image)?;
+    let size = size_of(&netlist);
+    if size > MOST_NETS {
+        return Err(Refusal::plain(15));
+    }
+    if buffer.len() != image_length(size) {
+        return Err(Refusal::plain(16));
+    }
+    write_image(&doubled(&netlist), buffer);
+    recheck(buffer)
+}
+
+/// The number of nets of the doubled netlist, which may be above 8,192. It
+/// meets 1 to 8 alone.
+pub fn doubled_size(image: &[u8]) -> Result<usize, Refusal> {
+    let netlist = check(image)?;
+    Ok(size_of(&netlist))
+}
+
+/// Refusal 17: the finished doubled image draws one of 1 to 8. The buffer is
+/// then set to 0, and the place is 0.
+fn recheck(buffer: &mut [u8]) -> Result<(), Refusal> {
+    if check(buffer).is_err() {
+        buffer.fill(0);
+        return Err(Refusal::plain(17));
+    }
+    Ok(())
+}
+
+/// The length of a net's group.
+fn group_length(net: Net) -> usize {
+    GROUP_LENGTHS[usize::from(net.kind().byte())]
+}
+
+/// The sum of all group lengths.
+fn size_of(netlist: &Netlist) -> usize {
+    let mut size = 0;
+    for net in &netlist.nets {
+        size += group_length(*net);
+    }
+    size
+}
+
+/// The value net and the mark net of every group, in net order. All of them are
+/// worked out before the first group is built, since a REG pin may point
+/// forward.
+fn pairs(netlist: &Netlist) -> Vec<Pair> {
+    let mut pairs = Vec::new();
+    let mut first = 0;
+    for net in &netlist.nets {
+        let length = group_length(*net);
+        let last = first + length - 1;
+        pairs.push(Pair {
+            v: Pin { net: first },
+            t: Pin { net: last },
+        });
+        first += length;
+    }
+    pairs
+}
+
+/// The doubled netlist. Inputs, registers and outputs are each two for one.
+fn doubled(netlist: &Netlist) -> Netlist {
+    let pairs = pairs(netlist);
+    let mut nets = Vec::new();
+    for net in &netlist.nets {
+        let first = nets.len();
+        nets.extend(group(*net, first, &pairs));
+    }
+    Netlist {
+        inputs: 2 * netlist.inputs,
+        registers: 2 * netlist.registers,
+        outputs: 2 * netlist.outputs,
+        nets,
+    }
+}
+
+/// The group of one net, whose first net has the number `first`.
+fn group(net: Net, first: usize, pairs: &[Pair]) -> Vec<Net> {
+    let pair = |pin: Pin| pairs[pin.net];
+    match net {
+        Net::Const(value) => vec![Net::Const(value), Net::Const(false)],
+        Net::Input => vec![Net::Input, Net::Input],
+        Net::Reg(a, start) => reg_group(pair(a), start),
+        Net::Not(a) => not_group(pair(a)),
+        Net::And(a, b) => and_group(pair(a), pair(b), first),
+        Net::Or(a, b) => or_group(pair(a), pair(b), first),
+        Net::Xor(a, b) => xor_group(pair(a), pair(b)),
+        Net::Mux(a, b, c) => mux_group(pair(a), pair(b), pair(c), first),
+        Net::Out(a, _) => out_group(pair(a)),
+    }
+}
+
+/// REG on va with start b; REG on ta with start 0.
+fn reg_group(a: Pair, start: Start) -> Vec<Net> {
+    vec![Net::Reg(a.v, start), Net::Reg(a.t, Start::Zero)]
+}
+
+/// NOT va; OR(ta, ta).
+fn not_group(a: Pair) -> Vec<Net> {
+    vec![Net::Not(a.v), Net::Or(a.t, a.t)]
+}
+
+/// XOR(va, vb); OR(ta, tb).
+fn xor_group(a: Pair, b: Pair) -> Vec<Net> {
+    vec![Net::Xor(a.v, b.v), Net::Or(a.t, b.t)]
+}
+
+/// AND(va, vb); p = AND(ta, vb); q = AND(tb, va); r = AND(ta, tb);
+/// s = OR(p, q); OR(s, r).
+fn and_group(a: Pair, b: Pair, first: usize) -> Vec<Net> {
+    let p = Pin { net: first + 1 };
+    let q = Pin { net: first + 2 };
+    let r = Pin { net: first + 3 };
+    let s = Pin { net: first + 4 };
+    vec![
+        Net::And(a.v, b.v),
+        Net::And(a.t, b.v),
+        Net::And(b.t, a.v),
+        Net::And(a.t, b.t),
+        Net::Or(p, q),
+        Net::Or(s, r),
+    ]
+}
+
+/// OR(va, vb); m = NOT va; n = NOT vb; p = AND(ta, n); q = AND(tb, m);
+/// r = AND(ta, tb); s = OR(p, q); OR(s, r).
+fn or_group(a: Pair, b: Pair, first: usize) -> Vec<Net> {
+    let m = Pin { net: first + 1 };
+    let n = Pin { net: first + 2 };
+    let p = Pin { net: first + 3 };
+    let q = Pin { net: first + 4 };
+    let r = Pin { net: first + 5 };
+    let s = Pin { net: first + 6 };
+    vec![
+        Net::Or(a.v, b.v),
+        Net::Not(a.v),
+        Net::Not(b.v),
+        Net::And(a.t, n),
+        Net::And(b.t, m),
+        Net::And(a.t, b.t),
+        Net::Or(p, q),
+        Net::Or(s, r),
+    ]
+}
+
+/// MUX(va, vb, vc); p = OR(va, vb); q = OR(ta, tb); r = OR(p, q);
+/// w = AND(tc, r); z = MUX(ta, tb, vc); OR(w, z).
+fn mux_group(a: Pair, b: Pair, c: Pair, first: usize) -> Vec<Net> {
+    let p = Pin { net: first + 1 };
+    let q = Pin { net: first + 2 };
+    let r = Pin { net: first + 3 };
+    let w = Pin { net: first + 4 };
+    let z = Pin { net: first + 5 };
+    vec![
+        Net::Mux(a.v, b.v, c.v),
+        Net::Or(a.v, b.v),
+        Net::Or(a.t, b.t),
+        Net::Or(p, q),
+        Net::And(c.t, r),
+        Net::Mux(a.t, b.t, c.v),
+        Net::Or(w, z),
+    ]
+}
+
+/// OUT va, free; OUT ta, free.
+fn out_group(a: Pair) -> Vec<Net> {
+    vec![Net::Out(a.v, Policy::Free), Net::Out(a.t, Policy::Free)]
+}
+
+#[cfg(test)]
+mod tests {
+    use super::*;
+
+    // No image is known for which doubling draws 17, so the recheck is tried on
+    // bytes that doubling never writes. N is 1 and the kind byte is 9, which
+    // draws 4, so the recheck gives 17 with place 0 and sets all 15 bytes to 0.
+    #[test]
+    fn a_bad_finished_image_draws_17_and_is_set_to_0() {
+        let mut buffer = [1, 0, 0, 0, 0, 0, 0, 0, 9, 1, 2, 3, 4, 5, 6];
+        assert_eq!(recheck(&mut buffer), Err(Refusal::plain(17)));
+        assert_eq!(buffer, [0; 15]);
+    }
+
+    // One CONST 1 is a good image, so the recheck leaves its bytes.
+    #[test]
+    fn a_good_finished_image_keeps_its_bytes() {
+        let good = [1, 0, 0, 0, 0, 0, 0, 0, 0, 1, 0, 0, 0, 0, 0];
+        let mut buffer = good;
+        assert_eq!(recheck(&mut buffer), Ok(()));
+        assert_eq!(buffer, good);
+    }
+}

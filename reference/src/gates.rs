@@ -1,0 +1,77 @@
+//! The gate rules of document 01, on net bytes.
+//!
+//! A net byte is value + 2 * mark. Mark 0 is trusted, mark 1 untrusted. The
+//! calls pass only bytes 0 to 3 to these functions. Of any other byte the two
+//! low bits alone are read.
+
+/// The value of a net byte.
+fn value(byte: u8) -> bool {
+    byte % 2 == 1
+}
+
+/// The mark of a net byte.
+fn mark(byte: u8) -> bool {
+    (byte / 2) % 2 == 1
+}
+
+/// The net byte with this value and this mark.
+fn net_byte(value: bool, mark: bool) -> u8 {
+    u8::from(value) + 2 * u8::from(mark)
+}
+
+/// A CONST has its value and mark 0.
+pub(crate) fn const_byte(value: bool) -> u8 {
+    net_byte(value, false)
+}
+
+/// The mark of byte is 1.
+pub(crate) fn is_marked(byte: u8) -> bool {
+    mark(byte)
+}
+
+/// NOT has the pin's mark.
+pub fn not_byte(a: u8) -> u8 {
+    net_byte(!value(a), mark(a))
+}
+
+/// AND is marked if (ta and b) or (tb and a) or (ta and tb).
+pub fn and_byte(a: u8, b: u8) -> u8 {
+    let (va, ta) = (value(a), mark(a));
+    let (vb, tb) = (value(b), mark(b));
+    let marked = (ta && vb) || (tb && va) || (ta && tb);
+    net_byte(va && vb, marked)
+}
+
+/// OR is marked if (ta and not b) or (tb and not a) or (ta and tb).
+pub fn or_byte(a: u8, b: u8) -> u8 {
+    let (va, ta) = (value(a), mark(a));
+    let (vb, tb) = (value(b), mark(b));
+    let marked = (ta && !vb) || (tb && !va) || (ta && tb);
+    net_byte(va || vb, marked)
+}
+
+/// XOR is marked if ta or tb. This holds also when both pins are the same net.
+pub fn xor_byte(a: u8, b: u8) -> u8 {
+    let (va, ta) = (value(a), mark(a));
+    let (vb, tb) = (value(b), mark(b));
+    let marked = ta || tb;
+    net_byte(va != vb, marked)
+}
+
+/// MUX gives a if c is 0 and b if c is 1.
+///
+/// If c is unmarked, it has the mark of the pin chosen. If c is marked, it is
+/// marked when any of a, b, ta, tb is 1.
+pub fn mux_byte(a: u8, b: u8, c: u8) -> u8 {
+    let (va, ta) = (value(a), mark(a));
+    let (vb, tb) = (value(b), mark(b));
+    let (vc, tc) = (value(c), mark(c));
+    let chosen_value = if vc { vb } else { va };
+    let chosen_mark = if vc { tb } else { ta };
+    let marked = if tc {
+        va || vb || ta || tb
+    } else {
+        chosen_mark
+    };
+    net_byte(chosen_value, marked)
+}

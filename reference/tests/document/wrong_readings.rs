@@ -1,0 +1,102 @@
+//! "Readings that would be wrong" in document 01, each as a test that the wrong
+//! reading fails.
+
+use crate::counter::{counter_run, CYCLES};
+use crate::images::*;
+use reference::{double, power_up, run, step, xor_byte, Verdict};
+
+// With a mark on a gate whenever a pin is marked, AND(3, 0) in cycle 2 would be
+// 2, and the register would be marked for ever. By the rule it is 0, and cycle
+// 3 is clear with the output byte 0 and the state 1.
+#[test]
+fn the_counter_comes_clean() {
+    assert_eq!(CYCLES[2][4], 0);
+    let mut state = [2];
+    let mut nets = [77; 6];
+    assert!(step(&COUNTER, &mut state, &[1], &mut nets).is_ok());
+    assert_eq!(nets, CYCLES[2]);
+    assert_eq!(state, [0]);
+    let verdict = step(&COUNTER, &mut state, &[0], &mut nets);
+    assert_eq!(verdict, Ok(Verdict::Clear));
+    assert_eq!(nets[5], 0);
+    assert_eq!(state, [1]);
+}
+
+// Two registers take each other's net, so their bytes change places with every
+// clock. If one saw the other's new byte, both would be equal after one clock.
+#[test]
+fn registers_change_places() {
+    let image = counted(&[(REG, 1, 1, 0), (REG, 0, 0, 0)]);
+    let mut state = [77; 2];
+    let mut nets = [77; 2];
+    power_up(&image, &mut state).unwrap();
+    assert_eq!(state, [1, 0]);
+    for expected in [[0, 1], [1, 0], [0, 1]] {
+        step(&image, &mut state, &[], &mut nets).unwrap();
+        assert_eq!(state, expected);
+    }
+    state = [2, 3];
+    run(&image, 3, &mut state, &[], &mut []).unwrap();
+    assert_eq!(state, [3, 2]);
+}
+
+// A chain of three registers, in both net orders, delays a row byte by three
+// cycles: rows 3, 0, 0, 1, 0 after the start 0, 0, 0 give 0, 0, 0, 3, 0.
+#[test]
+fn a_chain_of_registers_delays() {
+    let forward = counted(&[
+        (INPUT, 0, 0, 0),
+        (REG, 0, 0, 0),
+        (REG, 1, 0, 0),
+        (REG, 2, 0, 0),
+        (OUT, 3, 0, 0),
+    ]);
+    let backward = counted(&[
+        (REG, 1, 0, 0),
+        (REG, 2, 0, 0),
+        (REG, 3, 0, 0),
+        (INPUT, 0, 0, 0),
+        (OUT, 0, 0, 0),
+    ]);
+    for image in [forward, backward] {
+        let mut outputs = [77; 5];
+        run(&image, 5, &mut [0; 3], &[3, 0, 0, 1, 0], &mut outputs).unwrap();
+        assert_eq!(outputs, [0, 0, 0, 3, 0]);
+    }
+}
+
+// The counter's first flow is in cycle 1, and the output bytes of cycles 2 and
+// 3 are there, as is the last state.
+#[test]
+fn outputs_go_on_after_the_first_flow() {
+    let (answer, outputs, state) = counter_run();
+    assert_eq!(answer.cycle, 1);
+    assert_eq!(outputs[2..], [2, 0]);
+    assert_eq!(state, [1]);
+}
+
+// XOR of one marked net with itself has value 0 and mark 1, so it is 2, for
+// both values of the net. An unmarked net gives 0.
+#[test]
+fn xor_of_a_marked_net_with_itself_is_marked() {
+    assert_eq!([0, 1, 2, 3].map(|a| xor_byte(a, a)), [0, 0, 2, 2]);
+    let image = counted(&[(INPUT, 0, 0, 0), (XOR, 0, 0, 0), (OUT, 1, 1, 0)]);
+    for row in [2, 3] {
+        let mut nets = [77; 3];
+        let verdict = step(&image, &mut [], &[row], &mut nets);
+        assert_eq!(verdict, Ok(Verdict::Flow(2)));
+        assert_eq!(nets, [row, 2, 2]);
+    }
+}
+
+// In the doubled netlist of the same XOR the mark net is OR(t0, t0). For the
+// rows v, t = 0, 1 and 1, 1 the outputs are 0 and 1.
+#[test]
+fn the_doubled_xor_with_itself_is_marked() {
+    let image = counted(&[(INPUT, 0, 0, 0), (XOR, 0, 0, 0), (OUT, 1, 1, 0)]);
+    let mut doubled = [77; 50];
+    double(&image, &mut doubled).unwrap();
+    let mut outputs = [77; 4];
+    run(&doubled, 2, &mut [], &[0, 1, 1, 1], &mut outputs).unwrap();
+    assert_eq!(outputs, [0, 1, 0, 1]);
+}
