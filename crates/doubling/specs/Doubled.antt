@@ -4,10 +4,11 @@ use mathlib.Core.List.{List, [], _∷_, _++_}
 use mathlib.Core.Option.{Option, none, some}
 use lib.Dec.{ltb}
 use lib.ListN.{length, getD, take, replicate}
+use Rattle.gates.specs.Kinds.{CONST, INPUT, REG, NOT, AND, OR, XOR, MUX, OUT}
 use Rattle.netlist.specs.declared.image.Net.{Net}
 use Rattle.netlist.specs.Image.{sizesOf, net, netsOf, encode}
 use Rattle.netlist.specs.declared.answer.Refusal.{Refusal}
-use Rattle.netlist.specs.Check.{refuse, _then_, checkRefusal, badLength}
+use Rattle.netlist.specs.Check.{refusal, refuse, _then_, checkRefusal, badLength}
 use Rattle.tracker.specs.Calls.{Answer, done, refused}
 
 -- for kinds 0 to 8
@@ -29,7 +30,65 @@ valueNet xs i = doubledSize (take i xs)
 unfoldable pub markNet : List Net → ℕ → ℕ
 markNet xs i = doubledSize (take (suc i) xs) - 1
 
--- the group of a net whose value net is v, from the value and mark nets of its pins
+-- A group, in order, from the value nets va, vb, vc and the mark nets ta, tb, tc of its pins. The inner nets of a group whose first net is v
+-- have the names that document 01 gives them.
+
+-- CONST a; CONST 0
+abbrev constGroup : ℕ → List Net
+constGroup a = net CONST a 0 0 ∷ net CONST 0 0 0 ∷ []
+
+-- INPUT; INPUT
+abbrev inputGroup : List Net
+inputGroup = net INPUT 0 0 0 ∷ net INPUT 0 0 0 ∷ []
+
+-- REG on va with start b; REG on ta with start 0
+abbrev regGroup : (va ta b : ℕ) → List Net
+regGroup va ta b = net REG va b 0 ∷ net REG ta 0 0 ∷ []
+
+-- NOT va; OR(ta, ta)
+abbrev notGroup : (va ta : ℕ) → List Net
+notGroup va ta = net NOT va 0 0 ∷ net OR ta ta 0 ∷ []
+
+-- AND(va, vb); p = AND(ta, vb); q = AND(tb, va); r = AND(ta, tb); s = OR(p, q); OR(s, r)
+abbrev andGroup : (v va ta vb tb : ℕ) → List Net
+andGroup v va ta vb tb =
+    let p = v + 1 in
+    let q = v + 2 in
+    let r = v + 3 in
+    let s = v + 4 in
+    net AND va vb 0 ∷ net AND ta vb 0 ∷ net AND tb va 0 ∷ net AND ta tb 0 ∷ net OR p q 0 ∷ net OR s r 0 ∷ []
+
+-- OR(va, vb); m = NOT va; n = NOT vb; p = AND(ta, n); q = AND(tb, m); r = AND(ta, tb); s = OR(p, q); OR(s, r)
+abbrev orGroup : (v va ta vb tb : ℕ) → List Net
+orGroup v va ta vb tb =
+    let m = v + 1 in
+    let n = v + 2 in
+    let p = v + 3 in
+    let q = v + 4 in
+    let r = v + 5 in
+    let s = v + 6 in
+    net OR va vb 0
+    ∷ net NOT va 0 0 ∷ net NOT vb 0 0 ∷ net AND ta n 0 ∷ net AND tb m 0 ∷ net AND ta tb 0 ∷ net OR p q 0 ∷ net OR s r 0 ∷ []
+
+-- XOR(va, vb); OR(ta, tb)
+abbrev xorGroup : (va ta vb tb : ℕ) → List Net
+xorGroup va ta vb tb = net XOR va vb 0 ∷ net OR ta tb 0 ∷ []
+
+-- MUX(va, vb, vc); p = OR(va, vb); q = OR(ta, tb); r = OR(p, q); w = AND(tc, r); z = MUX(ta, tb, vc); OR(w, z)
+abbrev muxGroup : (v va ta vb tb vc tc : ℕ) → List Net
+muxGroup v va ta vb tb vc tc =
+    let p = v + 1 in
+    let q = v + 2 in
+    let r = v + 3 in
+    let w = v + 4 in
+    let z = v + 5 in
+    net MUX va vb vc ∷ net OR va vb 0 ∷ net OR ta tb 0 ∷ net OR p q 0 ∷ net AND tc r 0 ∷ net MUX ta tb vc ∷ net OR w z 0 ∷ []
+
+-- OUT va, free; OUT ta, free
+abbrev outGroup : (va ta : ℕ) → List Net
+outGroup va ta = net OUT va 0 0 ∷ net OUT ta 0 0 ∷ []
+
+-- the group of a net by its kind; v is its value net, and val and mrk give the value and mark nets of its pins
 unfoldable pub groupOf : ℕ → Net → (ℕ → ℕ) → (ℕ → ℕ) → List Net
 groupOf v x val mrk =
     let va = val (x .a) in
@@ -39,18 +98,15 @@ groupOf v x val mrk =
     let tb = mrk (x .b) in
     let tc = mrk (x .c) in
     getD
-    ((net 0 (x .a) 0 0 ∷ net 0 0 0 0 ∷ [])
-    ∷ (net 1 0 0 0 ∷ net 1 0 0 0 ∷ [])
-    ∷ (net 2 va (x .b) 0 ∷ net 2 ta 0 0 ∷ [])
-    ∷ (net 3 va 0 0 ∷ net 5 ta ta 0 ∷ [])
-    ∷ (net 4 va vb 0 ∷ net 4 ta vb 0 ∷ net 4 tb va 0 ∷ net 4 ta tb 0
-    ∷ net 5 (v + 1) (v + 2) 0 ∷ net 5 (v + 4) (v + 3) 0 ∷ [])
-    ∷ (net 5 va vb 0 ∷ net 3 va 0 0 ∷ net 3 vb 0 0 ∷ net 4 ta (v + 2) 0 ∷ net 4 tb (v + 1) 0 ∷ net 4 ta tb 0
-    ∷ net 5 (v + 3) (v + 4) 0 ∷ net 5 (v + 6) (v + 5) 0 ∷ [])
-    ∷ (net 6 va vb 0 ∷ net 5 ta tb 0 ∷ [])
-    ∷ (net 7 va vb vc ∷ net 5 va vb 0 ∷ net 5 ta tb 0 ∷ net 5 (v + 1) (v + 2) 0 ∷ net 4 tc (v + 3) 0 ∷ net 7 ta tb vc
-    ∷ net 5 (v + 4) (v + 5) 0 ∷ [])
-    ∷ (net 8 va 0 0 ∷ net 8 ta 0 0 ∷ [])
+    (constGroup (x .a)
+    ∷ inputGroup
+    ∷ regGroup va ta (x .b)
+    ∷ notGroup va ta
+    ∷ andGroup v va ta vb tb
+    ∷ orGroup v va ta vb tb
+    ∷ xorGroup va ta vb tb
+    ∷ muxGroup v va ta vb tb vc tc
+    ∷ outGroup va ta
     ∷ [])
     (x .kind) []
 
@@ -94,7 +150,7 @@ doubleOf s buf =
       | none ↦
           elim (checkRefusal (doubledImage s)) [
             | none ↦ record { answer = done tt; image = doubledImage s }
-            | some r ↦ record { answer = refused (record { number = 17; place = 0 }); image = replicate (length buf) 0 }
+            | some r ↦ record { answer = refused (refusal 17 0); image = replicate (length buf) 0 }
           ]
       | some r ↦ record { answer = refused r; image = buf }
     ]

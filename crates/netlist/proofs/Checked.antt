@@ -11,7 +11,8 @@ use lib.ListN.{length}
 use borrow.Author.Tests.{ltb-false, leb-false, le-ltb, lt-leb}
 use Rattle.netlist.specs.declared.image.Net.{Net}
 use Rattle.netlist.specs.Image.{sizesOf, net, netsFrom, netsOf, count}
-use Rattle.netlist.specs.Kinds.{CONST, INPUT, REG, OUT, listsA, listsB, listsC, pinA, pinB, pinC}
+use Rattle.gates.specs.Kinds.{CONST, INPUT, REG, OUT}
+use Rattle.netlist.specs.Operands.{listsA, listsB, listsC, pinA, pinB, pinC}
 use Rattle.netlist.specs.Check.{netRefusal, netsRefusal, checkRefusal}
 use Rattle.netlist.proofs.Refusals.{then-none, not-other, accepted}
 

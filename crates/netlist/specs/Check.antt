@@ -8,7 +8,8 @@ use lib.Dec.{eqb, leb, ltb}
 use lib.ListN.{length}
 use Rattle.netlist.specs.declared.answer.Outcome.{Outcome}
 use Rattle.netlist.specs.declared.answer.Outcome.the-variants.{Done, Refused}
-use Rattle.netlist.specs.Kinds.{CONST, INPUT, REG, OUT, listsA, listsB, listsC, pinA, pinB, pinC}
+use Rattle.gates.specs.Kinds.{CONST, INPUT, REG, OUT}
+use Rattle.netlist.specs.Operands.{listsA, listsB, listsC, pinA, pinB, pinC}
 use Rattle.netlist.specs.declared.image.Net.{Net}
 use Rattle.netlist.specs.Image.{sizesOf, netsOf, count}
 use Rattle.netlist.specs.declared.answer.Refusal.{Refusal}

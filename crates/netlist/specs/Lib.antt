@@ -1,4 +1,4 @@
 -- The image of a netlist, and its checking.
-pub mod Kinds
+pub mod Operands
 pub mod Image
 pub mod Check

@@ -2,7 +2,6 @@
 mod answer;
 mod checking;
 mod image;
-mod kinds;
 mod net;
 
 pub use answer::Outcome;

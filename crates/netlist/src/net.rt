@@ -2,13 +2,13 @@
 use crate::answer::Outcome;
 use crate::answer::refused;
 use crate::image::Net;
-use crate::kinds::AND;
-use crate::kinds::CONST;
-use crate::kinds::INPUT;
-use crate::kinds::MUX;
-use crate::kinds::NOT;
-use crate::kinds::OUT;
-use crate::kinds::REG;
+use gates::AND;
+use gates::CONST;
+use gates::INPUT;
+use gates::MUX;
+use gates::NOT;
+use gates::OUT;
+use gates::REG;
 ghost use mathlib.Core.Path.{_≡_};
 ghost use mathlib.Core.Bool.{cond};
 ghost use Prim.Native.Nat.{_≤_};
@@ -42,16 +42,19 @@ fn bad_unlisted(x: Net) -> bool
 pub fn check_net(n: usize, i: usize, x: Net) -> Outcome
     ensures { λ r. ⌜ refusalIn r ≡ netRefusal n i x ⌝ }
 {
+    let pin = bad_pin(n, i, x);
+    let value = bad_value(x);
+    let unlisted = bad_unlisted(x);
     if 8 < x.kind {
         return refused(4, i);
     }
-    if bad_pin(n, i, x) {
+    if pin {
         return refused(5, i);
     }
-    if bad_value(x) {
+    if value {
         return refused(6, i);
     }
-    if bad_unlisted(x) {
+    if unlisted {
         return refused(7, i);
     }
     Outcome::Done

@@ -5,6 +5,7 @@ use mathlib.Core.Bool.{_&&_, cond}
 use lib.Dec.{eqb}
 use lib.ListN.{getD, take, drop}
 use Rattle.gates.specs.Rules.{mark, gateByte}
+use Rattle.gates.specs.Kinds.{CONST, INPUT, REG, OUT}
 use Rattle.netlist.specs.declared.image.Net.{Net}
 
 -- A rule gives the byte of a net of kind 3 to 8 from its kind and the bytes of its pins.
@@ -23,9 +24,9 @@ pinByte bs p = getD bs p 0
 
 unfoldable pub netByte : Rule → Net → Walk → ℕ
 netByte rule x w =
-    cond (eqb (x .kind) 0) (x .a)
-    (cond (eqb (x .kind) 1) (getD (w .row) 0 0)
-    (cond (eqb (x .kind) 2) (getD (w .state) 0 0)
+    cond (eqb (x .kind) CONST) (x .a)
+    (cond (eqb (x .kind) INPUT) (getD (w .row) 0 0)
+    (cond (eqb (x .kind) REG) (getD (w .state) 0 0)
     (rule (x .kind) (pinByte (w .bytes) (x .a)) (pinByte (w .bytes) (x .b)) (pinByte (w .bytes) (x .c)))))
 
 -- past one net: an INPUT takes a row byte, a REG a state byte
@@ -33,8 +34,8 @@ unfoldable pub past : Rule → Net → Walk → Walk
 past rule x w =
     record {
       bytes = w .bytes ++ (netByte rule x w ∷ []);
-      row = drop (cond (eqb (x .kind) 1) 1 0) (w .row);
-      state = drop (cond (eqb (x .kind) 2) 1 0) (w .state);
+      row = drop (cond (eqb (x .kind) INPUT) 1 0) (w .row);
+      state = drop (cond (eqb (x .kind) REG) 1 0) (w .state);
     }
 
 unfoldable pub walk : Rule → List Net → Walk → Walk
@@ -53,18 +54,18 @@ pub data Verdict : Type 0 where
 unfoldable pub verdictFrom : ℕ → List Net → List ℕ → Verdict
 verdictFrom i [] bs = clear
 verdictFrom i (x ∷ xs) bs =
-    cond (eqb (x .kind) 8 && eqb (x .b) 1 && mark (getD bs i 0)) (flow i) (verdictFrom (suc i) xs bs)
+    cond (eqb (x .kind) OUT && eqb (x .b) 1 && mark (getD bs i 0)) (flow i) (verdictFrom (suc i) xs bs)
 
 -- the bytes of the OUTs among xs, in net order
 unfoldable pub outputsFrom : ℕ → List Net → List ℕ → List ℕ
 outputsFrom i [] bs = []
 outputsFrom i (x ∷ xs) bs =
-    cond (eqb (x .kind) 8) (getD bs i 0 ∷ outputsFrom (suc i) xs bs) (outputsFrom (suc i) xs bs)
+    cond (eqb (x .kind) OUT) (getD bs i 0 ∷ outputsFrom (suc i) xs bs) (outputsFrom (suc i) xs bs)
 
 -- one byte for each register among xs, in net order
 unfoldable pub registers : (Net → ℕ) → List Net → List ℕ
 registers f [] = []
-registers f (x ∷ xs) = cond (eqb (x .kind) 2) (f x ∷ registers f xs) (registers f xs)
+registers f (x ∷ xs) = cond (eqb (x .kind) REG) (f x ∷ registers f xs) (registers f xs)
 
 -- the clock: every register takes the byte of its net, all together
 unfoldable pub clocked : List Net → List ℕ → List ℕ

@@ -1,29 +1,41 @@
 -- `netlist::checking::check` meets its contract: each test that fails leaves the rest of the chain of refusals.
-use Prim.Native.Nat.{_≤_}
+use Prim.Native.Nat.{ℕ, _≤_}
+use mathlib.Core.Path.{_≡_}
+use mathlib.Core.Bool.{Bool, true, false, _||_}
 use native.Mathlib.Omega.{arith}
 use borrow.Author.Needs.{needs}
 use borrow.Author.Tests.{lt-ltb, le-ltb, eq-eqb, ne-eqb}
+use lib.Dec.{eqb, ltb}
 use Rattle.netlist.specs.Check.{checkRefusal}
 use Rattle.netlist.proofs.Refusals.{accepted}
 use Rattle.netlist.proofs.checking.check.Statement.{statement}
 use Rattle.netlist.proofs.checking.check.Tie as tie
 
+-- the condition of 2, at N
+abbrev wrongNets : ℕ → Bool
+wrongNets n = eqb n 0 || ltb 8192 n
+
 returns : tie.Need-returns
 unfolding checkRefusal
-returns c = rw (lt-ltb _ _ (c .before .if1 .taken)) (c .refused .ensures)
+returns c = rw (lt-ltb _ 8 (c .before .if1 .taken)) (c .refused .ensures)
 
 returns-2 : tie.Need-returns-2
 unfolding checkRefusal
 returns-2 c =
     let sized = c .before .before .before .before in
-    rw (le-ltb _ _ (sized .before .if1 .left), ← (sized .sizes-of .ensures), c .before .if2 .taken) (c .refused2 .ensures)
+    let two : wrongNets (sized .sizes-of .result .nets) ≡ true = c .before .if2 .taken in
+    rw (le-ltb _ 8 (sized .before .if1 .left), ← (sized .sizes-of .ensures), two) (c .refused2 .ensures)
+
+-- past 2
+not-2 : (c : tie.Else2) → wrongNets (c .before .before .before .sizes-of .result .nets) ≡ false
+not-2 c = c .if2 .left
 
 returns-3 : tie.Need-returns-3
 unfolding checkRefusal
 returns-3 c =
     let few = c .before .before .before in
     let sized = few .before .before .before in
-    rw (le-ltb _ _ (sized .before .if1 .left), ← (sized .sizes-of .ensures), few .if2 .left, ne-eqb _ _ (c .before .if3 .taken)) (c .refused3 .ensures)
+    rw (le-ltb _ 8 (sized .before .if1 .left), ← (sized .sizes-of .ensures), not-2 few, ne-eqb _ _ (c .before .if3 .taken)) (c .refused3 .ensures)
 
 returns-4 : tie.Need-returns-4
 unfolding checkRefusal
@@ -31,11 +43,10 @@ returns-4 c =
     let few = c .before .before .before in
     let sized = few .before .before .before in
     let sizes = sized .sizes-of .ensures in
-    rw (le-ltb _ _ (sized .before .if1 .left), ← sizes, few .if2 .left, eq-eqb _ _ (c .before .if3 .left)) (rw (← sizes) at (c .check-nets .ensures))
+    rw (le-ltb _ 8 (sized .before .if1 .left), ← sizes, not-2 few, eq-eqb _ _ (c .before .if3 .left)) (rw (← sizes) at (c .check-nets .ensures))
 
--- few nets, as numbers
 at-most : (c : tie.Else2) → c .before .before .before .sizes-of .result .nets ≤ 8192
-at-most c = let t = simp accepted at (c .if2 .left) in t .1
+at-most c = let t = simp accepted at (not-2 c) in t .1
 
 check-nets-requires : tie.Need-check-nets-requires
 check-nets-requires c κs =

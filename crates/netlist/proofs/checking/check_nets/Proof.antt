@@ -4,12 +4,12 @@ use Prim.Native.Nat.{ℕ, suc, _+_, _-_, _≤_, _<_}
 use mathlib.Core.Path.{_≡_, refl, sym, ap, _∙_}
 use mathlib.Core.List.{List, [], _∷_}
 use mathlib.Core.Option.{Option, none, some}
-use mathlib.Core.Bool.{_||_, not, cond}
+use mathlib.Core.Bool.{Bool, true, false, _||_, not, cond}
 use native.Mathlib.Numerals.{add-one}
 use native.Mathlib.Omega.{arith}
 use borrow.Author.Needs.{needs}
 use lib.Dec.{eqb}
-use Rattle.netlist.specs.Kinds.{INPUT, REG, OUT}
+use Rattle.gates.specs.Kinds.{INPUT, REG, OUT}
 use Rattle.netlist.specs.declared.image.Sizes.{Sizes}
 use Rattle.netlist.specs.declared.image.Net.{Net}
 use Rattle.netlist.specs.Image.{sizesOf, netAt, netsFrom, netsOf, count}
@@ -46,10 +46,14 @@ module _ {n : ℕ} {xs ys : List Net} {x : Net} {inputs registers outputs i : �
         of-outputs = omega (arith, l .of-outputs);
       }
 
+-- whether the counts differ from the sizes
+abbrev differ : Sizes → (inputs registers outputs : ℕ) → Bool
+differ z inputs registers outputs = not (eqb (z .inputs) inputs) || not (eqb (z .registers) registers) || not (eqb (z .outputs) outputs)
+
 -- with nothing left
 ends : {n : ℕ} (s : List ℕ) (z : Sizes) {inputs registers outputs i : ℕ} → z ≡ sizesOf s → Left n (netsOf s) [] inputs registers outputs i
     → (netsRefusal n 0 (netsOf s) then refuse (wrongCounts s) 8 0)
-    ≡ refuse (not (eqb (z .inputs) inputs) || not (eqb (z .registers) registers) || not (eqb (z .outputs) outputs)) 8 0
+    ≡ refuse (differ z inputs registers outputs) 8 0
 unfolding netsRefusal count
 ends s z {inputs} {registers} {outputs} h l =
     let a : count INPUT (netsOf s) ≡ inputs = omega (arith, l .of-inputs) in
@@ -113,7 +117,7 @@ compares : (c : tie.After-loop Inv-loop μ-loop)
     → let at = c .before .loop in
     let args = c .before .before .before .args in
     (netsRefusal (args .z .nets) 0 (netsOf (args .s .now)) then refuse (wrongCounts (args .s .now)) 8 0)
-    ≡ refuse (not (eqb (args .z .inputs) (at .inputs)) || not (eqb (args .z .registers) (at .registers)) || not (eqb (args .z .outputs) (at .outputs))) 8 0
+    ≡ refuse (differ (args .z) (at .inputs) (at .registers) (at .outputs)) 8 0
 compares c =
     let at = c .before .loop in
     let start = c .before .before .before in
@@ -122,15 +126,26 @@ compares c =
     let l : Left n (netsOf s) [] (at .inputs) (at .registers) (at .outputs) (at .i) = rw (nets-done s n (at .i) (omega arith)) at (at .inv .4) in
     ends s (start .args .z) (start .pre .0) l
 
+-- the last test, as the flag that was tested
+counts-differ : (c : tie.After-struct-known6 Inv-loop μ-loop) → Bool
+counts-differ c =
+    let looped = c .before .before .before in
+    let at = looped .before .loop in
+    differ (looped .before .before .before .args .z) (at .inputs) (at .registers) (at .outputs)
+
 returns-2 : tie.Need-returns-2 Inv-loop μ-loop
+unfolding counts-differ
 returns-2 c =
     let tested = c .before .before in
-    rw (compares (tested .before .before .before), c .before .if1 .taken) (c .refused .ensures)
+    let wrong : counts-differ tested ≡ true = c .before .if1 .taken in
+    rw (compares (tested .before .before .before), wrong) (c .refused .ensures)
 
 returns-3 : tie.Need-returns-3 Inv-loop μ-loop
+unfolding counts-differ
 returns-3 c =
     let tested = c .before in
-    rw (compares (tested .before .before .before), c .if1 .left)
+    let right : counts-differ tested ≡ false = c .if1 .left in
+    rw (compares (tested .before .before .before), right)
 
 pub check-nets-spec : {M : Type 1} → statement M
 check-nets-spec =

@@ -1,74 +1,71 @@
--- `netlist::net::check_net` meets its contract: each test that fails leaves the rest of the chain of refusals.
-use mathlib.Core.Path.{_≡_, sym, _∙_}
-use mathlib.Core.Bool.{false}
+-- `netlist::net::check_net` meets its contract: the flags are the conditions of 5 to 7, and they are tried in the order of the chain.
+use mathlib.Core.Path.{_≡_}
 use borrow.Author.Needs.{needs}
 use borrow.Author.Tests.{lt-ltb, le-ltb}
-use Rattle.netlist.specs.Check.{badPin, badValue, badUnlisted, netRefusal}
+use lib.Dec.{ltb}
+use Rattle.netlist.specs.Check.{refuse, _then_, netRefusal}
 use Rattle.netlist.proofs.net.check_net.Statement.{statement}
 use Rattle.netlist.proofs.net.check_net.Tie as tie
 
-returns : tie.Need-returns
+-- the chain of refusals, by the flags
+chain : (c : tie.After-bad-unlisted)
+    → let value = c .before in
+    let pin = value .before in
+    let args = pin .before .args in
+    netRefusal (args .n) (args .i) (args .x)
+    ≡ (refuse (ltb 8 (args .x .kind)) 4 (args .i)
+    then refuse (pin .bad-pin .result) 5 (args .i)
+    then refuse (value .bad-value .result) 6 (args .i)
+    then refuse (c .bad-unlisted .result) 7 (args .i))
 unfolding netRefusal
-returns c = rw (lt-ltb _ _ (c .before .if1 .taken)) (c .refused .ensures)
+chain c = rw (c .before .before .bad-pin .ensures, c .before .bad-value .ensures, c .bad-unlisted .ensures)
+
+returns : tie.Need-returns
+returns c =
+    let kind = c .before in
+    rw (chain (kind .before .before), lt-ltb 8 _ (kind .if1 .taken)) (c .refused .ensures)
 
 returns-2 : tie.Need-returns-2
-unfolding netRefusal
 returns-2 c =
-    let pin = c .before .before in
-    rw (le-ltb _ _ (pin .before .if1 .left), sym (pin .bad-pin .ensures) ∙ c .before .if2 .taken) (c .refused2 .ensures)
+    let pin = c .before in
+    let kind = pin .before in
+    rw (chain (kind .before .before), le-ltb 8 _ (kind .if1 .left), pin .if2 .taken) (c .refused2 .ensures)
 
 returns-3 : tie.Need-returns-3
-unfolding netRefusal
 returns-3 c =
-    let value = c .before .before in
-    let pin = value .before .before in
-    rw (
-      le-ltb _ _ (pin .before .if1 .left),
-      sym (pin .bad-pin .ensures) ∙ value .before .if2 .left,
-      sym (value .bad-value .ensures) ∙ c .before .if3 .taken,
-    )
-    (c .refused3 .ensures)
+    let value = c .before in
+    let pin = value .before in
+    let kind = pin .before in
+    rw (chain (kind .before .before), le-ltb 8 _ (kind .if1 .left), pin .if2 .left, value .if3 .taken) (c .refused3 .ensures)
 
 returns-4 : tie.Need-returns-4
-unfolding netRefusal
 returns-4 c =
-    let unlisted = c .before .before in
-    let value = unlisted .before .before in
-    let pin = value .before .before in
-    rw (
-      le-ltb _ _ (pin .before .if1 .left),
-      sym (pin .bad-pin .ensures) ∙ value .before .if2 .left,
-      sym (value .bad-value .ensures) ∙ unlisted .before .if3 .left,
-      sym (unlisted .bad-unlisted .ensures) ∙ c .before .if4 .taken,
-    )
-    (c .refused4 .ensures)
+    let unlisted = c .before in
+    let value = unlisted .before in
+    let pin = value .before in
+    let kind = pin .before in
+    rw (chain (kind .before .before), le-ltb 8 _ (kind .if1 .left), pin .if2 .left, value .if3 .left, unlisted .if4 .taken) (c .refused4 .ensures)
 
 returns-5 : tie.Need-returns-5
-unfolding netRefusal
 returns-5 c =
-    let unlisted = c .before in
-    let value = unlisted .before .before in
-    let pin = value .before .before in
-    rw (
-      le-ltb _ _ (pin .before .if1 .left),
-      sym (pin .bad-pin .ensures) ∙ value .before .if2 .left,
-      sym (value .bad-value .ensures) ∙ unlisted .before .if3 .left,
-      sym (unlisted .bad-unlisted .ensures) ∙ c .if4 .left,
-    )
+    let value = c .before in
+    let pin = value .before in
+    let kind = pin .before in
+    rw (chain (kind .before .before), le-ltb 8 _ (kind .if1 .left), pin .if2 .left, value .if3 .left, c .if4 .left)
 
 pub check-net-spec : {M : Type 1} → statement M
 check-net-spec =
     tie.close
     (tie.spec
     (λ c κs. search needs)
-    returns
     (λ c κs. search needs)
+    (λ c κs. search needs)
+    (λ c κs. search needs)
+    returns
     (λ c κs. search needs)
     returns-2
     (λ c κs. search needs)
-    (λ c κs. search needs)
     returns-3
-    (λ c κs. search needs)
     (λ c κs. search needs)
     returns-4
     returns-5)

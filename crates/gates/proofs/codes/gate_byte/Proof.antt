@@ -1,7 +1,7 @@
--- `gates::gate_byte` meets its contract: the index is the place of its code, and the table has the gate's byte there.
+-- `gates::codes::gate_byte` meets its contract: the index is the place of its code, and the table has the gate's byte there.
 use borrow.Author.Needs.{needs}
-use Rattle.gates.proofs.gate_byte.Statement.{statement}
-use Rattle.gates.proofs.gate_byte.Tie as tie
+use Rattle.gates.proofs.codes.gate_byte.Statement.{statement}
+use Rattle.gates.proofs.codes.gate_byte.Tie as tie
 
 returns : tie.Need-returns
 returns c =

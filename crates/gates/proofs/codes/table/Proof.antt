@@ -1,4 +1,4 @@
--- `gates::table` meets its contract: the rule of the table is one test, computed over its 576 codes.
+-- `gates::codes::table` meets its contract: the rule of the table is one test, computed over its 576 codes.
 use Prim.Native.Nat.{ℕ, _/_, _%_}
 use mathlib.Core.Path.{_≡_, refl}
 use mathlib.Core.List.{List}
@@ -9,8 +9,8 @@ use lib.ListN.{length, getD}
 use Rattle.gates.specs.Rules.{value, mark, byte, andMark, orMark, xorMark, muxMark, notByte, andByte, orByte, xorByte, muxByte, gateByte}
 use Rattle.gates.specs.Table.{place, GateTable}
 use Rattle.gates.proofs.Entries.{every, entry}
-use Rattle.gates.proofs.table.Statement.{statement}
-use Rattle.gates.proofs.table.Tie as tie
+use Rattle.gates.proofs.codes.table.Statement.{statement}
+use Rattle.gates.proofs.codes.table.Tie as tie
 
 -- the code x at place p is the byte of its gate
 right : ℕ → ℕ → Bool

@@ -1,34 +1,8 @@
--- The kinds of nets, and which operands each of them lists (document 01, the table of "The image").
+-- Which operands each kind of net lists, and which of them are pins (document 01, the table of "The image").
 use Prim.Native.Nat.{ℕ}
 use mathlib.Core.Bool.{Bool, _&&_, _||_, not}
 use lib.Dec.{eqb, leb}
-
-abbrev pub CONST : ℕ
-CONST = 0
-
-abbrev pub INPUT : ℕ
-INPUT = 1
-
-abbrev pub REG : ℕ
-REG = 2
-
-abbrev pub NOT : ℕ
-NOT = 3
-
-abbrev pub AND : ℕ
-AND = 4
-
-abbrev pub OR : ℕ
-OR = 5
-
-abbrev pub XOR : ℕ
-XOR = 6
-
-abbrev pub MUX : ℕ
-MUX = 7
-
-abbrev pub OUT : ℕ
-OUT = 8
+use Rattle.gates.specs.Kinds.{CONST, INPUT, NOT, AND, MUX, OUT}
 
 -- whether a kind lists operand a, b, c
 abbrev pub listsA : ℕ → Bool

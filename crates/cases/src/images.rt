@@ -1,0 +1,47 @@
+// Small images: counts are I, R and O, and a net is its kind and its operands a, b and c. Every number in them is below 256.
+
+// One net.
+pub fn one(counts: [u8; 3], net: [u8; 4]) -> [u8; 15] {
+    let mut s = [0u8; 15];
+    s[0] = 1;
+    s[2] = counts[0];
+    s[4] = counts[1];
+    s[6] = counts[2];
+    s[8] = net[0];
+    s[9] = net[1];
+    s[11] = net[2];
+    s[13] = net[3];
+    s
+}
+
+// Two nets.
+pub fn two(counts: [u8; 3], first: [u8; 4], second: [u8; 4]) -> [u8; 22] {
+    let mut s = [0u8; 22];
+    s[0] = 2;
+    s[2] = counts[0];
+    s[4] = counts[1];
+    s[6] = counts[2];
+    s[8] = first[0];
+    s[9] = second[0];
+    s[10] = first[1];
+    s[12] = first[2];
+    s[14] = first[3];
+    s[16] = second[1];
+    s[18] = second[2];
+    s[20] = second[3];
+    s
+}
+
+// The counter of source document 001, Figure 3: 0 INPUT; 1 REG(4, start 0); 2 NOT 1; 3 NOT 0; 4 AND(2, 3); 5 OUT 1, protected.
+pub fn counter() -> [u8; 50] {
+    *b"\
+        \x06\0\x01\0\x01\0\x01\0\
+        \x01\x02\x03\x03\x04\x08\
+        \0\0\0\0\0\0\
+        \x04\0\0\0\0\0\
+        \x01\0\0\0\0\0\
+        \0\0\0\0\0\0\
+        \x02\0\x03\0\0\0\
+        \x01\0\x01\0\0\0\
+        "
+}

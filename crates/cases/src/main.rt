@@ -1,0 +1,13 @@
+// Document 01's examples, executed: a line has an example and what the library answers, and the file stdout has what the document says.
+mod checking;
+mod images;
+mod print;
+
+fn main() {
+    checking::small_examples();
+    checking::lengths_and_counts();
+    checking::kinds_and_pins();
+    checking::values_and_unlisted();
+    checking::order();
+    checking::limits();
+}
