@@ -10,6 +10,7 @@ use lib.Dec.{eqb, leb, lit≤}
 use lib.ListN.{length, getD, length-append, List·getD-append}
 use lib.Seq.{getD-append-add}
 use Rattle.gates.specs.Rules.{value, mark, byte, andMark, orMark, xorMark, muxMark, notByte, andByte, orByte, xorByte, muxByte, gateByte}
+use Rattle.gates.proofs.EachCode.{both, each, each-pair, each-triple}
 use Rattle.netlist.specs.declared.image.Net.{Net}
 use Rattle.netlist.specs.Image.{net}
 use Rattle.tracker.specs.Cycle.{Walk, pinByte, netByte, past, walk}
@@ -91,10 +92,6 @@ muxBytes a b c =
     let z = muxByte (a / 2) (b / 2) (c % 2) in
     muxByte (a % 2) (b % 2) (c % 2) ∷ p ∷ q ∷ r ∷ w ∷ z ∷ orByte w z ∷ []
 
-both : (p q : Bool) → (p && q) ≡ true → (p ≡ true) × (q ≡ true)
-both true q h = (refl, h)
-both false q h = (cc, cc)
-
 -- the first byte of a group is the value of the byte x, and the last its mark
 pub record Splits (x : ℕ) (es : List ℕ) : Type 0 where
   pub more : 2 ≤ length es
@@ -112,41 +109,28 @@ splits x es h =
     let c = both _ _ (b .1) in
     record { more = leb-true _ _ (a .0); first = eqb-true _ _ (b .0); last = eqb-true _ _ (c .0); fits = leb-true _ _ (c .1) }
 
--- a test of the four bytes
-abbrev all4 : (ℕ → Bool) → Bool
-all4 P = P 0 && (P 1 && (P 2 && P 3))
-
-each4 : (P : ℕ → Bool) → all4 P ≡ true → (a : ℕ) → a ≤ 3 → P a ≡ true
-each4 P h zero l = both (P 0) _ h .0
-each4 P h (suc zero) l = let t = both (P 0) _ h in both (P 1) _ (t .1) .0
-each4 P h (suc (suc zero)) l = let t = both (P 0) _ h in let u = both (P 1) _ (t .1) in both (P 2) (P 3) (u .1) .0
-each4 P h (suc (suc (suc zero))) l = let t = both (P 0) _ h in let u = both (P 1) _ (t .1) in both (P 2) (P 3) (u .1) .1
-each4 P h (suc (suc (suc (suc a)))) l = absurd (omega arith)
-
 pub byte-splits : (a : ℕ) → a ≤ 3 → Splits a (a % 2 ∷ a / 2 ∷ [])
-byte-splits a h = splits _ _ (each4 (λ a. splitTest a (a % 2 ∷ a / 2 ∷ [])) refl a h)
+byte-splits a h = splits _ _ (each (λ a. splitTest a (a % 2 ∷ a / 2 ∷ [])) refl a h)
 
 not-splits : (a : ℕ) → a ≤ 3 → Splits (notByte a) (notBytes a)
 unfolding value mark byte orMark notByte orByte notBytes
-not-splits a h = splits _ _ (each4 (λ a. splitTest (notByte a) (notBytes a)) refl a h)
+not-splits a h = splits _ _ (each (λ a. splitTest (notByte a) (notBytes a)) refl a h)
 
 and-splits : (a b : ℕ) → a ≤ 3 → b ≤ 3 → Splits (andByte a b) (andBytes a b)
 unfolding value mark byte andMark orMark andByte orByte andBytes
-and-splits a b h k = splits _ _ (each4 (λ b. splitTest (andByte a b) (andBytes a b)) (each4 (λ a. all4 (λ b. splitTest (andByte a b) (andBytes a b))) refl a h) b k)
+and-splits a b h k = splits _ _ (each-pair (λ a b. splitTest (andByte a b) (andBytes a b)) refl a b h k)
 
 or-splits : (a b : ℕ) → a ≤ 3 → b ≤ 3 → Splits (orByte a b) (orBytes a b)
 unfolding value mark byte andMark orMark notByte andByte orByte orBytes
-or-splits a b h k = splits _ _ (each4 (λ b. splitTest (orByte a b) (orBytes a b)) (each4 (λ a. all4 (λ b. splitTest (orByte a b) (orBytes a b))) refl a h) b k)
+or-splits a b h k = splits _ _ (each-pair (λ a b. splitTest (orByte a b) (orBytes a b)) refl a b h k)
 
 xor-splits : (a b : ℕ) → a ≤ 3 → b ≤ 3 → Splits (xorByte a b) (xorBytes a b)
 unfolding value mark byte orMark xorMark orByte xorByte xorBytes
-xor-splits a b h k = splits _ _ (each4 (λ b. splitTest (xorByte a b) (xorBytes a b)) (each4 (λ a. all4 (λ b. splitTest (xorByte a b) (xorBytes a b))) refl a h) b k)
+xor-splits a b h k = splits _ _ (each-pair (λ a b. splitTest (xorByte a b) (xorBytes a b)) refl a b h k)
 
 mux-splits : (a b c : ℕ) → a ≤ 3 → b ≤ 3 → c ≤ 3 → Splits (muxByte a b c) (muxBytes a b c)
 unfolding value mark byte andMark orMark muxMark andByte orByte muxByte muxBytes
-mux-splits a b c h k l =
-    let test : ℕ → ℕ → ℕ → Bool = λ a b c. splitTest (muxByte a b c) (muxBytes a b c) in
-    splits _ _ (each4 (test a b) (each4 (λ b. all4 (test a b)) (each4 (λ a. all4 (λ b. all4 (test a b))) refl a h) b k) c l)
+mux-splits a b c h k l = splits _ _ (each-triple (λ a b c. splitTest (muxByte a b c) (muxBytes a b c)) refl a b c h k l)
 
 pub const-splits : (a : ℕ) → a ≤ 1 → Splits a (a ∷ 0 ∷ [])
 const-splits zero h = splits _ _ refl

@@ -1,3 +1,5 @@
 -- Laws of the gate rules and of tables.
+pub mod EachCode
 pub mod Laws
+pub mod Composed
 mod Entries

@@ -6,9 +6,9 @@ use lib.ListN.{getD}
 use Rattle.gates.specs.Rules.{gateByte}
 
 -- where a code stands: by kind, then by the bytes of the pins a, b and c
-abbrev pub place : (kind a b c : ℕ) → ℕ
-place kind a b c = ((kind * 4 + a) * 4 + b) * 4 + c
+abbrev pub codeIndex : (kind a b c : ℕ) → ℕ
+codeIndex kind a b c = ((kind * 4 + a) * 4 + b) * 4 + c
 
 -- a table whose every code is the byte of its gate
 pub record GateTable (t : List ℕ) : Type 0 where
-  pub codes : (kind a b c : ℕ) → kind < 9 → a < 4 → b < 4 → c < 4 → getD t (place kind a b c) 0 ≡ gateByte kind a b c
+  pub codes : (kind a b c : ℕ) → kind < 9 → a < 4 → b < 4 → c < 4 → getD t (codeIndex kind a b c) 0 ≡ gateByte kind a b c

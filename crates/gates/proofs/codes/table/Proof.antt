@@ -7,7 +7,7 @@ use native.Mathlib.Omega.{arith}
 use lib.Dec.{T, eqb, eqb→eq}
 use lib.ListN.{length, getD}
 use Rattle.gates.specs.Rules.{value, mark, byte, andMark, orMark, xorMark, muxMark, notByte, andByte, orByte, xorByte, muxByte, gateByte}
-use Rattle.gates.specs.Table.{place, GateTable}
+use Rattle.gates.specs.Table.{codeIndex, GateTable}
 use Rattle.gates.proofs.Entries.{every, entry}
 use Rattle.gates.proofs.codes.table.Statement.{statement}
 use Rattle.gates.proofs.codes.table.Tie as tie
@@ -21,7 +21,7 @@ unfolding right
 filled t test size =
     record {
       codes = λ kind a b c hk ha hb hc.
-          let p = place kind a b c in
+          let p = codeIndex kind a b c in
           let k : p / 64 ≡ kind = omega arith in
           let i : p / 16 % 4 ≡ a = omega arith in
           let j : p / 4 % 4 ≡ b = omega arith in
