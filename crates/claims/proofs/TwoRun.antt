@@ -8,7 +8,7 @@ use lib.ListN.{length, getD}
 use Rattle.gates.specs.Relations.{AgreeByte, same, low-high, high-low, Agree}
 use Rattle.netlist.specs.Image.{sizesOf, netsOf}
 use Rattle.netlist.specs.declared.answer.Refusal.{Refusal}
-use Rattle.netlist.specs.Check.{refuse, badByte, badLength}
+use Rattle.netlist.specs.Check.{badByte, badLength}
 use Rattle.netlist.proofs.Pairs.{pairs-refl, pairs-length, pairs-append, pairs-map, pairs-square}
 use Rattle.netlist.proofs.Checked.{Checked, check-none}
 use Rattle.tracker.specs.Cycle.{Cycle, firstOf, firstFlow}

@@ -1,7 +1,6 @@
 -- The MUX rule is that of a NOT, two ANDs and an OR, as source document 001 composes a MUX.
 use Prim.Native.Nat.{ℕ, _≤_}
 use mathlib.Core.Path.{_≡_, refl}
-use mathlib.Core.Bool.{Bool}
 use borrow.Author.Tests.{eqb-true}
 use lib.Dec.{eqb}
 use Rattle.gates.specs.Rules.{value, mark, byte, andMark, orMark, muxMark, notByte, andByte, orByte, muxByte}

@@ -71,7 +71,7 @@ module _ (z : Sizes) (xs : List Net) where
   net-at i h =
       let x = getD xs i nothing in
       let n = 8 + length xs + 6 * i in
-      let a = ap₂ (λ l m. l + 256 * m) (part-at i 0 n h (lit< tt) (omega arith)) (part-at i 1 (n + 1) h (lit< tt) refl) ∙ two-bytes (x .a) in
+      let a = ap₂ (λ l m. l + 256 * m) (part-at i 0 (n + 0) h (lit< tt) refl) (part-at i 1 (n + 0 + 1) h (lit< tt) (omega arith)) ∙ two-bytes (x .a) in
       let b = ap₂ (λ l m. l + 256 * m) (part-at i 2 (n + 2) h (lit< tt) refl) (part-at i 3 (n + 2 + 1) h (lit< tt) (omega arith)) ∙ two-bytes (x .b) in
       let c = ap₂ (λ l m. l + 256 * m) (part-at i 4 (n + 4) h (lit< tt) refl) (part-at i 5 (n + 4 + 1) h (lit< tt) (omega arith)) ∙ two-bytes (x .c) in
       λ j. record { kind = kind-at i h j; a = a j; b = b j; c = c j }

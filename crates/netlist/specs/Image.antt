@@ -18,18 +18,18 @@ sizesOf s = record { nets = u16At s 0; inputs = u16At s 2; registers = u16At s 4
 abbrev pub net : ℕ → ℕ → ℕ → ℕ → Net
 net k a b c = record { kind = k; a = a; b = b; c = c }
 
--- net i of an image of n nets
-unfoldable pub netAt : List ℕ → ℕ → ℕ → Net
-netAt s n i =
-    record {
-      kind = getD s (8 + i) 0;
-      a = u16At s (8 + n + 6 * i);
-      b = u16At s (8 + n + 6 * i + 2);
-      c = u16At s (8 + n + 6 * i + 4);
-    }
+-- the kind of net i, and its operands a, b, c as operands 0, 1, 2, in an image of n nets
+abbrev pub kindAt : List ℕ → ℕ → ℕ
+kindAt s i = getD s (8 + i) 0
+
+abbrev pub operandAt : List ℕ → (n i k : ℕ) → ℕ
+operandAt s n i k = u16At s (8 + n + 6 * i + 2 * k)
+
+unfoldable pub netAt : List ℕ → (n i : ℕ) → Net
+netAt s n i = record { kind = kindAt s i; a = operandAt s n i 0; b = operandAt s n i 1; c = operandAt s n i 2 }
 
 -- k nets of it, from net i on
-unfoldable pub netsFrom : List ℕ → ℕ → ℕ → ℕ → List Net
+unfoldable pub netsFrom : List ℕ → (n i k : ℕ) → List Net
 netsFrom s n i zero = []
 netsFrom s n i (suc k) = netAt s n i ∷ netsFrom s n (suc i) k
 

@@ -1,8 +1,8 @@
 // What stands in an image: the four sizes, then a kind byte for each net, then three operands for each net.
 ghost use mathlib.Core.Path.{_≡_};
 ghost use Prim.Native.Nat.{_+_, _*_, _<_, _≤_};
-ghost use lib.ListN.{length, getD};
-ghost use Rattle.netlist.specs.Image.{u16At, sizesOf, netAt};
+ghost use lib.ListN.{length};
+ghost use Rattle.netlist.specs.Image.{u16At, sizesOf, kindAt, operandAt, netAt};
 
 pub struct Sizes {
     pub nets: usize,
@@ -44,16 +44,31 @@ pub fn sizes_of(s: &[u8]) -> Sizes
     }
 }
 
+// The kind of net i.
+pub fn kind_at(s: &[u8], i: usize) -> u8
+    requires { ⌜ 8 + i < length (now s) ⌝ }
+    ensures { λ r. ⌜ r ≡ kindAt (now (s .entry)) i ⌝ }
+{
+    s[8 + i]
+}
+
+// Operand k of net i in an image of n nets: a is 0, b is 1, c is 2.
+pub fn operand_at(s: &[u8], n: usize, i: usize, k: usize) -> usize
+    requires { ⌜ (i < n) × (k < 3) × (length (now s) ≡ 8 + 7 * n) ⌝ }
+    ensures { λ r. ⌜ (r ≡ operandAt (now (s .entry)) n i k) × (r < 65536) ⌝ }
+{
+    u16_at(s, 8 + n + 6 * i + 2 * k)
+}
+
 // Net i of an image of n nets.
 pub fn net_at(s: &[u8], n: usize, i: usize) -> Net
     requires { ⌜ (i < n) × (length (now s) ≡ 8 + 7 * n) ⌝ }
     ensures { λ r. ⌜ r ≡ netAt (now (s .entry)) n i ⌝ }
 {
-    let p = 8 + n + 6 * i;
     Net {
-        kind: s[8 + i],
-        a: u16_at(s, p),
-        b: u16_at(s, p + 2),
-        c: u16_at(s, p + 4),
+        kind: kind_at(s, i),
+        a: operand_at(s, n, i, 0),
+        b: operand_at(s, n, i, 1),
+        c: operand_at(s, n, i, 2),
     }
 }

@@ -10,6 +10,8 @@ pub use answer::refused;
 pub use checking::check;
 pub use image::Net;
 pub use image::Sizes;
+pub use image::kind_at;
 pub use image::net_at;
+pub use image::operand_at;
 pub use image::sizes_of;
 pub use image::u16_at;

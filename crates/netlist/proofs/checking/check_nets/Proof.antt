@@ -1,6 +1,6 @@
 -- `netlist::checking::check_nets` meets its contract. At net i, what refuses the nets is what refuses those that are left, and each count
 -- is what was counted and what is left of it.
-use Prim.Native.Nat.{ℕ, suc, _+_, _-_, _≤_, _<_}
+use Prim.Native.Nat.{ℕ, _+_, _-_, _≤_}
 use mathlib.Core.Path.{_≡_, refl, sym, ap, _∙_}
 use mathlib.Core.List.{List, [], _∷_}
 use mathlib.Core.Option.{Option, none, some}
@@ -12,7 +12,7 @@ use lib.Dec.{eqb}
 use Rattle.gates.specs.Kinds.{INPUT, REG, OUT}
 use Rattle.netlist.specs.declared.image.Sizes.{Sizes}
 use Rattle.netlist.specs.declared.image.Net.{Net}
-use Rattle.netlist.specs.Image.{sizesOf, netAt, netsFrom, netsOf, count}
+use Rattle.netlist.specs.Image.{sizesOf, netsFrom, netsOf, count}
 use Rattle.netlist.specs.declared.answer.Refusal.{Refusal}
 use Rattle.netlist.specs.Check.{refuse, refusalIn, _then_, netRefusal, netsRefusal, wrongCounts}
 use Rattle.netlist.proofs.Nets.{netsLeft, nets-all, nets-next, nets-done}

@@ -9,20 +9,8 @@ unfolding netAt
 returns c =
     let b = c .before in
     let a = b .before in
-    rw (a .u16-at .ensures .0, b .u16-at2 .ensures .0, c .u16-at3 .ensures .0)
+    let kind = a .before in
+    rw (kind .kind-at .ensures, a .operand-at .ensures .0, b .operand-at2 .ensures .0, c .operand-at3 .ensures .0)
 
 pub net-at-spec : {M : Type 1} → statement M
-net-at-spec =
-    tie.close
-    (tie.spec
-    (λ c. search needs)
-    (λ c. search needs)
-    (λ c. search needs)
-    (λ c. search needs)
-    (λ c. search needs)
-    (λ c κs. search needs)
-    (λ c. search needs)
-    (λ c κs. search needs)
-    (λ c. search needs)
-    (λ c κs. search needs)
-    returns)
+net-at-spec = tie.close (tie.spec (λ c κs. search needs) (λ c κs. search needs) (λ c κs. search needs) (λ c κs. search needs) returns)
