@@ -1,4 +1,4 @@
--- Lists of calls on one image, each call taking the state that the last one left.
+-- Lists of calls on one image s, each call taking the state st that the last one left.
 use Prim.Native.Nat.{ℕ}
 use mathlib.Core.List.{List, [], _∷_, _++_}
 use mathlib.Core.Option.{Option, none, some}
@@ -16,7 +16,7 @@ unfoldable pub lent : Call → List ℕ
 lent (step row nets) = nets
 lent (run k rows outputs) = outputs
 
-unfoldable pub refusalOf : List ℕ → List ℕ → Call → Option Refusal
+unfoldable pub refusalOf : (s st : List ℕ) → Call → Option Refusal
 refusalOf s st (step row nets) = stepRefusal s st row nets
 refusalOf s st (run k rows outputs) = runRefusal s st k rows outputs
 
@@ -31,7 +31,7 @@ pub record Made : Type 0 where
   pub state : List ℕ
   pub cycles : List Stepped
 
-unfoldable pub madeBy : List ℕ → List ℕ → Call → Made
+unfoldable pub madeBy : (s st : List ℕ) → Call → Made
 madeBy s st (step row nets) =
     let o = stepOf s st row nets in
     record {
@@ -49,12 +49,12 @@ madeBy s st (run k rows outputs) =
       cycles = elim (runRefusal s st k rows outputs) [ none ↦ stepsOf s st k rows | some r ↦ [] ];
     }
 
-unfoldable pub history : List ℕ → List ℕ → List Call → List Made
+unfoldable pub history : (s st : List ℕ) → List Call → List Made
 history s st [] = []
 history s st (c ∷ cs) = let m = madeBy s st c in m ∷ history s (m .state) cs
 
 -- the calls of a list that are not refused
-unfoldable pub accepted : List ℕ → List ℕ → List Call → List Call
+unfoldable pub accepted : (s st : List ℕ) → List Call → List Call
 accepted s st [] = []
 accepted s st (c ∷ cs) =
     elim (refusalOf s st c) [

@@ -24,10 +24,10 @@ doubledSize [] = 0
 doubledSize (x ∷ xs) = groupLength (x .kind) + doubledSize xs
 
 -- the value net and the mark net of net i
-unfoldable pub valueNet : List Net → ℕ → ℕ
+unfoldable pub valueNet : List Net → (i : ℕ) → ℕ
 valueNet xs i = doubledSize (take i xs)
 
-unfoldable pub markNet : List Net → ℕ → ℕ
+unfoldable pub markNet : List Net → (i : ℕ) → ℕ
 markNet xs i = doubledSize (take (suc i) xs) - 1
 
 -- A group, in order, from the value nets va, vb, vc and the mark nets ta, tb, tc of its pins. The inner nets of a group whose first net is v
@@ -89,7 +89,7 @@ abbrev outGroup : (va ta : ℕ) → List Net
 outGroup va ta = net OUT va 0 0 ∷ net OUT ta 0 0 ∷ []
 
 -- the group of a net by its kind; v is its value net, and val and mrk give the value and mark nets of its pins
-unfoldable pub groupOf : ℕ → Net → (ℕ → ℕ) → (ℕ → ℕ) → List Net
+unfoldable pub groupOf : (v : ℕ) → Net → (val mrk : ℕ → ℕ) → List Net
 groupOf v x val mrk =
     let va = val (x .a) in
     let vb = val (x .b) in
@@ -111,11 +111,11 @@ groupOf v x val mrk =
     (x .kind) []
 
 -- the group of y, which is net i of xs
-abbrev pub groupAt : List Net → ℕ → Net → List Net
+abbrev pub groupAt : List Net → (i : ℕ) → Net → List Net
 groupAt xs i y = groupOf (valueNet xs i) y (valueNet xs) (markNet xs)
 
 -- the groups of the nets ys, the first of which is net i of xs
-unfoldable pub groupsFrom : List Net → ℕ → List Net → List Net
+unfoldable pub groupsFrom : List Net → (i : ℕ) → List Net → List Net
 groupsFrom xs i [] = []
 groupsFrom xs i (y ∷ ys) = groupAt xs i y ++ groupsFrom xs (suc i) ys
 
@@ -137,14 +137,14 @@ pub record Doubling : Type 0 where
   pub answer : Answer Unit
   pub image : List ℕ
 
-unfoldable pub doubleRefusal : List ℕ → List ℕ → Option Refusal
+unfoldable pub doubleRefusal : (s buf : List ℕ) → Option Refusal
 doubleRefusal s buf =
     checkRefusal s
     then refuse (ltb 8192 (doubledSize (netsOf s))) 15 0
     then badLength 16 (8 + 7 * doubledSize (netsOf s)) buf
 
 -- 17, with the buffer set to 0, where checking refuses what was written
-unfoldable pub doubleOf : List ℕ → List ℕ → Doubling
+unfoldable pub doubleOf : (s buf : List ℕ) → Doubling
 doubleOf s buf =
     elim (doubleRefusal s buf) [
       | none ↦

@@ -15,7 +15,7 @@ use Rattle.netlist.specs.Image.{sizesOf, netsOf, count}
 use Rattle.netlist.specs.declared.answer.Refusal.{Refusal}
 
 -- a refusal's number in the table, and its place
-abbrev pub refusal : ℕ → ℕ → Refusal
+abbrev pub refusal : (number place : ℕ) → Refusal
 refusal number place = record { number = number; place = place }
 
 -- the refusal that an answer gives
@@ -24,7 +24,7 @@ refusalIn Done = none
 refusalIn (Refused r) = some r
 
 -- the refusal, where its condition holds
-abbrev pub refuse : Bool → ℕ → ℕ → Option Refusal
+abbrev pub refuse : Bool → (number place : ℕ) → Option Refusal
 refuse c number place = cond c (some (refusal number place)) none
 
 -- the first, or else the second
@@ -34,7 +34,7 @@ some r then q = some r
 none then q = q
 
 -- 5: a REG pin that is not below N, or another pin that is not below its net
-abbrev pub badPin : ℕ → ℕ → Net → Bool
+abbrev pub badPin : (n i : ℕ) → Net → Bool
 badPin n i x =
     (eqb (x .kind) REG && leb n (x .a))
     || (pinA (x .kind) && leb i (x .a))
@@ -56,7 +56,7 @@ badUnlisted x =
     || (not (listsC (x .kind)) && not (eqb (x .c) 0))
 
 -- 4 to 7 at net i of n
-unfoldable pub netRefusal : ℕ → ℕ → Net → Option Refusal
+unfoldable pub netRefusal : (n i : ℕ) → Net → Option Refusal
 netRefusal n i x =
     refuse (ltb 8 (x .kind)) 4 i
     then refuse (badPin n i x) 5 i
@@ -64,7 +64,7 @@ netRefusal n i x =
     then refuse (badUnlisted x) 7 i
 
 -- nets are tried in turn, each for 4 to 7; the first of xs is net i
-unfoldable pub netsRefusal : ℕ → ℕ → List Net → Option Refusal
+unfoldable pub netsRefusal : (n i : ℕ) → List Net → Option Refusal
 netsRefusal n i [] = none
 netsRefusal n i (x ∷ xs) = netRefusal n i x then netsRefusal n (suc i) xs
 
@@ -85,10 +85,10 @@ checkRefusal s =
     then refuse (wrongCounts s) 8 0
 
 -- the first byte above 3 of a list, as the refusal number with its index
-unfoldable pub badByte : ℕ → ℕ → List ℕ → Option Refusal
+unfoldable pub badByte : (number i : ℕ) → List ℕ → Option Refusal
 badByte number i [] = none
 badByte number i (x ∷ xs) = refuse (ltb 3 x) number i then badByte number (suc i) xs
 
 -- refusal number where a list has not the length that it must have
-unfoldable pub badLength : ℕ → ℕ → List ℕ → Option Refusal
+unfoldable pub badLength : (number n : ℕ) → List ℕ → Option Refusal
 badLength number n xs = refuse (not (eqb (length xs) n)) number 0

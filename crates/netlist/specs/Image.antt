@@ -8,18 +8,18 @@ use Rattle.netlist.specs.declared.image.Sizes.{Sizes}
 use Rattle.netlist.specs.declared.image.Net.{Net}
 
 -- a u16 is two bytes, low byte first
-abbrev pub u16At : List ℕ → ℕ → ℕ
+abbrev pub u16At : List ℕ → (p : ℕ) → ℕ
 u16At s p = getD s p 0 + 256 * getD s (p + 1) 0
 
 -- N nets, I inputs, R registers, O outputs
 unfoldable pub sizesOf : List ℕ → Sizes
 sizesOf s = record { nets = u16At s 0; inputs = u16At s 2; registers = u16At s 4; outputs = u16At s 6 }
 
-abbrev pub net : ℕ → ℕ → ℕ → ℕ → Net
+abbrev pub net : (k a b c : ℕ) → Net
 net k a b c = record { kind = k; a = a; b = b; c = c }
 
 -- the kind of net i, and its operands a, b, c as operands 0, 1, 2, in an image of n nets
-abbrev pub kindAt : List ℕ → ℕ → ℕ
+abbrev pub kindAt : List ℕ → (i : ℕ) → ℕ
 kindAt s i = getD s (8 + i) 0
 
 abbrev pub operandAt : List ℕ → (n i k : ℕ) → ℕ
@@ -37,7 +37,7 @@ unfoldable pub netsOf : List ℕ → List Net
 netsOf s = netsFrom s (sizesOf s .nets) 0 (sizesOf s .nets)
 
 -- how many nets are of kind k
-unfoldable pub count : ℕ → List Net → ℕ
+unfoldable pub count : (k : ℕ) → List Net → ℕ
 count k [] = 0
 count k (x ∷ xs) = cond (eqb (x .kind) k) 1 0 + count k xs
 

@@ -1,4 +1,4 @@
--- What each public call answers, and what it leaves in every lent buffer. A refusal leaves each as it was.
+-- What each public call on an image s and a state st answers, and what it leaves in every lent buffer. A refusal leaves each as it was.
 use Prim.Native.Nat.{ℕ, _*_}
 use mathlib.Core.List.{List}
 use mathlib.Core.Option.{Option, none, some}
@@ -25,10 +25,10 @@ pub record PoweredUp : Type 0 where
   pub answer : Answer Unit
   pub state : List ℕ
 
-unfoldable pub powerUpRefusal : List ℕ → List ℕ → Option Refusal
+unfoldable pub powerUpRefusal : (s st : List ℕ) → Option Refusal
 powerUpRefusal s st = checkRefusal s then badLength 10 (sizesOf s .registers) st
 
-unfoldable pub powerUpOf : List ℕ → List ℕ → PoweredUp
+unfoldable pub powerUpOf : (s st : List ℕ) → PoweredUp
 powerUpOf s st =
     elim (powerUpRefusal s st) [
       | none ↦ record { answer = done tt; state = starts (netsOf s) }
@@ -44,7 +44,7 @@ pub record Stepped : Type 0 where
 unfoldable pub asStep : Cycle → Stepped
 asStep c = record { answer = done (c .verdict); state = c .state; nets = c .bytes }
 
-unfoldable pub stepRefusal : List ℕ → List ℕ → List ℕ → List ℕ → Option Refusal
+unfoldable pub stepRefusal : (s st row nets : List ℕ) → Option Refusal
 stepRefusal s st row nets =
     checkRefusal s
     then badLength 10 (sizesOf s .registers) st
@@ -53,7 +53,7 @@ stepRefusal s st row nets =
     then badByte 13 0 row
     then badLength 14 (sizesOf s .nets) nets
 
-unfoldable pub stepOf : List ℕ → List ℕ → List ℕ → List ℕ → Stepped
+unfoldable pub stepOf : (s st row nets : List ℕ) → Stepped
 stepOf s st row nets =
     elim (stepRefusal s st row nets) [
       | none ↦ asStep (cycleOf (netsOf s) row st)
@@ -66,10 +66,10 @@ pub record Ran : Type 0 where
   pub outputs : List ℕ
 
 -- an accepted run from the state st, from its cycles
-unfoldable pub asRun : List ℕ → List Cycle → Ran
+unfoldable pub asRun : (st : List ℕ) → List Cycle → Ran
 asRun st cs = record { answer = done (firstFlow 0 cs); state = stateAfter st cs; outputs = outputsOf cs }
 
-unfoldable pub runRefusal : List ℕ → List ℕ → ℕ → List ℕ → List ℕ → Option Refusal
+unfoldable pub runRefusal : (s st : List ℕ) (k : ℕ) (rows outputs : List ℕ) → Option Refusal
 runRefusal s st k rows outputs =
     checkRefusal s
     then refuse (ltb 4096 k) 9 0
@@ -79,7 +79,7 @@ runRefusal s st k rows outputs =
     then badByte 13 0 rows
     then badLength 14 (k * sizesOf s .outputs) outputs
 
-unfoldable pub runOf : List ℕ → List ℕ → ℕ → List ℕ → List ℕ → Ran
+unfoldable pub runOf : (s st : List ℕ) (k : ℕ) (rows outputs : List ℕ) → Ran
 runOf s st k rows outputs =
     elim (runRefusal s st k rows outputs) [
       | none ↦ asRun st (cyclesOf (netsOf s) (sizesOf s .inputs) k rows st)

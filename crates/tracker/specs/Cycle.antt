@@ -19,7 +19,7 @@ pub record Walk : Type 0 where
   pub state : List ℕ
 
 -- what a pin reads
-unfoldable pub pinByte : List ℕ → ℕ → ℕ
+unfoldable pub pinByte : (bs : List ℕ) (p : ℕ) → ℕ
 pinByte bs p = getD bs p 0
 
 unfoldable pub netByte : Rule → Net → Walk → ℕ
@@ -51,13 +51,13 @@ pub data Verdict : Type 0 where
   flow : ℕ → Verdict
 
 -- the lowest-numbered protected OUT with mark 1 among xs, the first of which is net i
-unfoldable pub verdictFrom : ℕ → List Net → List ℕ → Verdict
+unfoldable pub verdictFrom : (i : ℕ) → List Net → (bs : List ℕ) → Verdict
 verdictFrom i [] bs = clear
 verdictFrom i (x ∷ xs) bs =
     cond (eqb (x .kind) OUT && eqb (x .b) 1 && mark (getD bs i 0)) (flow i) (verdictFrom (suc i) xs bs)
 
 -- the bytes of the OUTs among xs, in net order
-unfoldable pub outputsFrom : ℕ → List Net → List ℕ → List ℕ
+unfoldable pub outputsFrom : (i : ℕ) → List Net → (bs : List ℕ) → List ℕ
 outputsFrom i [] bs = []
 outputsFrom i (x ∷ xs) bs =
     cond (eqb (x .kind) OUT) (getD bs i 0 ∷ outputsFrom (suc i) xs bs) (outputsFrom (suc i) xs bs)
@@ -68,7 +68,7 @@ registers f [] = []
 registers f (x ∷ xs) = cond (eqb (x .kind) REG) (f x ∷ registers f xs) (registers f xs)
 
 -- the clock: every register takes the byte of its net, all together
-unfoldable pub clocked : List Net → List ℕ → List ℕ
+unfoldable pub clocked : List Net → (bs : List ℕ) → List ℕ
 clocked xs bs = registers (λ x. pinByte bs (x .a)) xs
 
 pub record Cycle : Type 0 where
@@ -93,7 +93,7 @@ unfoldable pub outputsOf : List Cycle → List ℕ
 outputsOf [] = []
 outputsOf (c ∷ cs) = c .outputs ++ outputsOf cs
 
-unfoldable pub stateAfter : List ℕ → List Cycle → List ℕ
+unfoldable pub stateAfter : (st : List ℕ) → List Cycle → List ℕ
 stateAfter state [] = state
 stateAfter state (c ∷ cs) = stateAfter (c .state) cs
 
@@ -102,11 +102,11 @@ pub record FirstFlow : Type 0 where
   pub cycle : ℕ
   pub verdict : Verdict
 
-unfoldable pub firstOf : ℕ → Verdict → FirstFlow → FirstFlow
+unfoldable pub firstOf : (i : ℕ) → Verdict → (later : FirstFlow) → FirstFlow
 firstOf i clear later = later
 firstOf i (flow n) later = record { cycle = i; verdict = flow n }
 
 -- of cycles of which the first is cycle i
-unfoldable pub firstFlow : ℕ → List Cycle → FirstFlow
+unfoldable pub firstFlow : (i : ℕ) → List Cycle → FirstFlow
 firstFlow i [] = record { cycle = i; verdict = clear }
 firstFlow i (c ∷ cs) = firstOf i (c .verdict) (firstFlow (suc i) cs)
