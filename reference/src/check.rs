@@ -45,8 +45,9 @@ fn check_sizes(image: &[u8]) -> Result<Sizes, Refusal> {
 /// Refusals 4 to 7 for one net, in this order. A REG with a bad pin and a bad
 /// start therefore draws 5. The place is the net.
 fn check_net(entry: &Entry, number: usize, n: usize) -> Result<Net, Refusal> {
-    let Some(kind) = Kind::from_byte(entry.kind) else {
-        return Err(Refusal::at(4, number));
+    let kind = match Kind::from_byte(entry.kind) {
+        Some(kind) => kind,
+        None => return Err(Refusal::at(4, number)),
     };
     if !pins_are_good(kind, entry, number, n) {
         return Err(Refusal::at(5, number));
