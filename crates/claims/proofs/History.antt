@@ -8,10 +8,10 @@ use Rattle.netlist.specs.declared.answer.Refusal.{Refusal}
 use Rattle.tracker.specs.Cycle.{cycleOf, cyclesOf, outputsOf, stateAfter, firstFlow}
 use Rattle.tracker.specs.Calls.{done, refused, asStep, stepRefusal, asRun, runRefusal}
 use Rattle.tracker.proofs.Calls.{step-accepted, step-refused, run-accepted, run-refused}
-use Rattle.claims.specs.History.{Call, step, run, lent, refusalOf, Said, stepped, ran, madeBy, accepted, TurnedBack}
+use Rattle.claims.specs.History.{Call, step, run, lent, refusalOf, CallAnswer, stepped, ran, callResult, accepted, TurnedBack}
 use Rattle.claims.proofs.Steps.{run-is-steps}
 
-unfoldable pub turned : Call → Refusal → Said
+unfoldable pub turned : Call → Refusal → CallAnswer
 turned (step row nets) r = stepped (refused r)
 turned (run k rows outputs) r = ran (refused r)
 
@@ -22,30 +22,30 @@ turns-back (run k rows outputs) r = TurnedBack.a-run
 
 pub made-refused :
     (s st : List ℕ) (c : Call) (r : Refusal) → refusalOf s st c ≡ some r
-    → madeBy s st c ≡ record { answer = turned c r; buffer = lent c; state = st; cycles = [] }
-unfolding madeBy refusalOf turned lent
+    → callResult s st c ≡ record { answer = turned c r; buffer = lent c; state = st; cycles = [] }
+unfolding callResult refusalOf turned lent
 made-refused s st (step row nets) r h = rw (h, step-refused s st row nets r h)
 made-refused s st (run k rows outputs) r h = rw (h, run-refused s st k rows outputs r h)
 
 pub made-step :
     (s st row nets : List ℕ) → stepRefusal s st row nets ≡ none
     → let c = cycleOf (netsOf s) row st in
-    madeBy s st (step row nets) ≡ record { answer = stepped (done (c .verdict)); buffer = c .bytes; state = c .state; cycles = asStep c ∷ [] }
-unfolding madeBy asStep
+    callResult s st (step row nets) ≡ record { answer = stepped (done (c .verdict)); buffer = c .bytes; state = c .state; cycles = asStep c ∷ [] }
+unfolding callResult asStep
 made-step s st row nets h = rw (h, step-accepted s st row nets h)
 
 pub made-run :
     (s st : List ℕ) (k : ℕ) (rows outputs : List ℕ) → runRefusal s st k rows outputs ≡ none
     → let cs = cyclesOf (netsOf s) (sizesOf s .inputs) k rows st in
-    madeBy s st (run k rows outputs) ≡ record { answer = ran (done (firstFlow 0 cs)); buffer = outputsOf cs; state = stateAfter st cs; cycles = map asStep cs }
-unfolding madeBy asRun
+    callResult s st (run k rows outputs) ≡ record { answer = ran (done (firstFlow 0 cs)); buffer = outputsOf cs; state = stateAfter st cs; cycles = map asStep cs }
+unfolding callResult asRun
 made-run s st k rows outputs h = rw (h, run-accepted s st k rows outputs h, run-is-steps s st k rows outputs h .cycles)
 
 -- the calls that are not refused
-pub accepted-none : (s st : List ℕ) (c : Call) (cs : List Call) → refusalOf s st c ≡ none → accepted s st (c ∷ cs) ≡ c ∷ accepted s (madeBy s st c .state) cs
+pub accepted-none : (s st : List ℕ) (c : Call) (cs : List Call) → refusalOf s st c ≡ none → accepted s st (c ∷ cs) ≡ c ∷ accepted s (callResult s st c .state) cs
 unfolding accepted
 accepted-none s st c cs h = rw (h, accepted)
 
 pub accepted-some : (s st : List ℕ) (c : Call) (cs : List Call) (r : Refusal) → refusalOf s st c ≡ some r → accepted s st (c ∷ cs) ≡ accepted s st cs
 unfolding accepted
-accepted-some s st c cs r h = rw (h, accepted)
+accepted-some s st c cs r h = rw (h, accepted, made-refused s st c r h)

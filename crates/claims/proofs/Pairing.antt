@@ -4,19 +4,21 @@ use mathlib.Core.Path.{_≡_, refl}
 use mathlib.Core.List.{List, [], _∷_, Forall₂, Forall₂·nil, Forall₂·cons}
 use mathlib.Core.Option.{Option, none, some}
 use native.Mathlib.Omega.{arith}
+use lib.Dec.{lit<}
+use lib.ListN.{length}
 use Rattle.netlist.specs.Image.{sizesOf, netsOf}
 use Rattle.netlist.specs.declared.answer.Refusal.{Refusal}
-use Rattle.netlist.proofs.Pairs.{pairs-append, pairs-map}
+use Rattle.netlist.proofs.Pairs.{pairs-append, pairs-getD, pairs-map}
 use Rattle.netlist.proofs.Checked.{Checked, check-none, length-nets}
 use Rattle.tracker.specs.Cycle.{Cycle}
-use Rattle.tracker.specs.Calls.{starts, asStep, stepRefusal, runRefusal}
+use Rattle.tracker.specs.Calls.{starts, powerUpOf, asStep, stepRefusal, runRefusal}
 use Rattle.tracker.proofs.Calls.{IsState, step-none, run-none, starts-state, powered-up, cycle-state, run-state}
 use Rattle.doubling.specs.Doubled.{doubledSize, doubledImage, split}
 use Rattle.doubling.proofs.Positions.{value-register, mark-register, outs-free}
-use Rattle.doubling.proofs.Checks.{doubled-sizes, doubled-nets, doubled-checked, double-accepted}
+use Rattle.doubling.proofs.Checks.{doubled-sizes, doubled-nets, doubled-checked, doubled-bytes, double-none, double-accepted}
 use Rattle.doubling.proofs.Runs.{Doubles, state-doubles, ready-again, cycle-doubles, cycles-double, power-up-again}
-use Rattle.claims.specs.History.{Call, refusalOf, madeBy, history, accepted, cyclesIn, Finished, AllFinished}
-use Rattle.claims.specs.Pairing.{Again, step-again, run-again, shown, Shows, DoubledChecks, DoublingWrites, Demand2, DoubledUnseen}
+use Rattle.claims.specs.History.{Call, refusalOf, callResult, history, accepted, cyclesIn, Finished, AllFinished}
+use Rattle.claims.specs.Pairing.{Again, step-again, run-again, shown, Shows, Paired, DoubledChecks, DoublingWrites, DoubledReadsAll, Demand2, DoubledUnseen}
 use Rattle.claims.proofs.History.{made-refused, made-step, made-run, accepted-none, accepted-some}
 
 pub doubled-checks : DoubledChecks
@@ -25,7 +27,7 @@ doubled-checks s h few = check-none (doubledImage s) .1 (doubled-checked s (chec
 pub doubling-writes : DoublingWrites
 doubling-writes = double-accepted
 
-doubles-show : (s : List ℕ) (c c′ : Cycle) → Doubles s c c′ → Shows s (asStep c) (asStep c′)
+doubles-show : (s : List ℕ) (c c′ : Cycle) → Doubles s c c′ → Shows s (doubledImage s) (asStep c) (asStep c′)
 unfolding shown asStep
 doubles-show s c c′ h = record { pairs = h .shows }
 
@@ -35,10 +37,10 @@ module _ (s : List ℕ) (c : Checked s) (few : doubledSize (netsOf s) ≤ 8192) 
 
   -- one accepted call, and the same made again
   record CallAgain (st : List ℕ) (a a′ : Call) : Type 0 where
-    finished : Finished (madeBy d (split st) a′ .answer)
-    shows : Forall₂ (Shows s) (madeBy s st a .cycles) (madeBy d (split st) a′ .cycles)
-    same : madeBy d (split st) a′ .state ≡ split (madeBy s st a .state)
-    state : IsState s (madeBy s st a .state)
+    finished : Finished (callResult d (split st) a′ .answer)
+    shows : Forall₂ (Shows s d) (callResult s st a .cycles) (callResult d (split st) a′ .cycles)
+    same : callResult d (split st) a′ .state ≡ split (callResult s st a .state)
+    state : IsState s (callResult s st a .state)
 
   call-again : (st : List ℕ) (a a′ : Call) → refusalOf s st a ≡ none → Again d a a′ → CallAgain st a a′
   unfolding refusalOf
@@ -72,18 +74,18 @@ module _ (s : List ℕ) (c : Checked s) (few : doubledSize (netsOf s) ≤ 8192) 
 
   record CallsAgain (st : List ℕ) (cs cs′ : List Call) : Type 0 where
     finished : AllFinished (history d (split st) cs′)
-    cycles : Forall₂ (Shows s) (cyclesIn (history s st cs)) (cyclesIn (history d (split st) cs′))
+    cycles : Forall₂ (Shows s d) (cyclesIn (history s st cs)) (cyclesIn (history d (split st) cs′))
 
   abbrev From : List Call → Type 0
   From cs = (st : List ℕ) (cs′ : List Call) → IsState s st → Forall₂ (Again d) (accepted s st cs) cs′ → CallsAgain st cs cs′
 
   accepted-first :
       (st : List ℕ) (a : Call) (cs : List Call) {bs cs′ : List Call} → refusalOf s st a ≡ none → From cs
-      → bs ≡ accepted s (madeBy s st a .state) cs → Forall₂ (Again d) (a ∷ bs) cs′ → CallsAgain st (a ∷ cs) cs′
+      → bs ≡ accepted s (callResult s st a .state) cs → Forall₂ (Again d) (a ∷ bs) cs′ → CallsAgain st (a ∷ cs) cs′
   unfolding history cyclesIn
   accepted-first st a cs h ih e (Forall₂·cons {b = a′} {l₂ = cs′} p ps) =
       let o = call-again st a a′ h p in
-      let rest = ih (madeBy s st a .state) cs′ (o .state) (rw e at ps) in
+      let rest = ih (callResult s st a .state) cs′ (o .state) (rw e at ps) in
       record {
         finished = AllFinished.cons (o .finished) (rw (← (o .same)) at (rest .finished));
         cycles = pairs-append (o .shows) (rw (← (o .same)) at (rest .cycles));
@@ -106,13 +108,27 @@ module _ (s : List ℕ) (c : Checked s) (few : doubledSize (netsOf s) ≤ 8192) 
   calls-again [] st cs′ t p = unfold accepted in no-call st p
   calls-again (a ∷ cs) st cs′ t p = first-call st a cs cs′ (refusalOf s st a) refl t (calls-again cs) p
 
+  -- each from its own power-up
+  pairs : (a b : List ℕ) → length a ≡ sizesOf s .registers → length b ≡ sizesOf d .registers
+      → (cs cs′ : List Call) → Forall₂ (Again d) (accepted s (powerUpOf s a .state) cs) cs′ → Paired s d a b cs cs′
+  pairs a b la lb cs cs′ p =
+      let e = powered-up s a c la in
+      let e′ = power-up-again s c few b lb in
+      let r = calls-again cs (starts (netsOf s)) cs′ (starts-state c) (rw e at p) in
+      record { powered-up = (rw e, rw e′); finished = rw e′ (r .finished); cycles = rw (e, e′) (r .cycles) }
+
 pub demand2 : Demand2
-demand2 s h few a b la lb cs cs′ p =
-    let c = check-none s .0 h in
-    let e = powered-up s a c la in
-    let e′ = power-up-again s c few b lb in
-    let r = calls-again s c few cs (starts (netsOf s)) cs′ (starts-state c) (rw e at p) in
-    record { finished = rw e′ (r .finished); cycles = rw (e, e′) (r .cycles) }
+demand2 s buf h =
+    let t = double-none s buf .0 h in
+    let e = double-accepted s buf h in
+    record { written = rw e; paired = rw e (pairs s (t .0) (t .1)) }
+
+pub doubled-reads : DoubledReadsAll
+doubled-reads s h few =
+    record {
+      nets = doubled-nets s;
+      bytes = λ p. pairs-getD p 0 (lit< tt) (doubled-bytes s (check-none s .0 h) few);
+    }
 
 -- what no run shows
 pub doubled-unseen : DoubledUnseen

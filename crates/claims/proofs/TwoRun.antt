@@ -15,8 +15,8 @@ use Rattle.tracker.specs.Cycle.{Cycle, firstOf, firstFlow}
 use Rattle.tracker.specs.Calls.{done, Stepped, powerUpOf, asStep, stepRefusal, runRefusal}
 use Rattle.tracker.proofs.Cycles.{Related, agree-outputs, agree-cycle, agree-cycles, outputs-of-related, state-after-related}
 use Rattle.tracker.proofs.Calls.{step-none, run-none, powered-up}
-use Rattle.doubling.specs.Doubled.{doubledImage, split}
-use Rattle.claims.specs.History.{Call, refusalOf, stepped, ran, madeBy, history, cyclesIn, Finished, InSteps}
+use Rattle.doubling.specs.Doubled.{split}
+use Rattle.claims.specs.History.{Call, refusalOf, stepped, ran, callResult, history, cyclesIn, Finished, InSteps}
 use Rattle.claims.specs.Pairing.{Shows}
 use Rattle.claims.specs.TwoRun.{Matched, steps, runs, SameCycle, SameCall, turned-back, finished, SameCalls, SameShown, Demand3}
 use Rattle.claims.proofs.Steps.{run-is-steps}
@@ -69,9 +69,9 @@ as-steps c c′ h = record { verdict = ap done (h .verdict); nets = h .bytes; st
 
 -- CALLS. One place of the two lists
 record SamePlace (s st st′ : List ℕ) (c d : Call) : Type 0 where
-  call : SameCall s st st′ c d (madeBy s st c) (madeBy s st′ d)
-  state : Agree (madeBy s st c .state) (madeBy s st′ d .state)
-  cycles : Forall₂ SameCycle (madeBy s st c .cycles) (madeBy s st′ d .cycles)
+  call : SameCall s st st′ c d (callResult s st c) (callResult s st′ d)
+  state : Agree (callResult s st c .state) (callResult s st′ d .state)
+  cycles : Forall₂ SameCycle (callResult s st c .cycles) (callResult s st′ d .cycles)
 
 same-place :
     (s : List ℕ) {st st′ : List ℕ} {c d : Call} → Agree st st′ → Matched c d
@@ -151,8 +151,8 @@ values-split zero (Forall₂·cons low-high t) e = absurd (omega arith)
 values-split zero (Forall₂·cons high-low t) e = absurd (omega arith)
 values-split (suc j) (Forall₂·cons h t) e = rw (two-more j) (values-split j t (rw (two-one-more j) at e))
 
-same-shown : (s : List ℕ) (x y u v : Stepped) → Shows s x u → Shows s y v → SameCycle x y → SameShown (doubledImage s) u v
-same-shown s x y u v p q r =
+same-shown : (s d : List ℕ) (x y u v : Stepped) → Shows s d x u → Shows s d y v → SameCycle x y → SameShown d u v
+same-shown s d x y u v p q r =
     let a = agree-outputs 0 (netsOf s) (r .nets) in
     record {
       marks = λ j l. rw (p .pairs, q .pairs) (marks-split j a);
@@ -165,8 +165,8 @@ demand3 s h cs ds m =
     record {
       calls = λ st st′ q. same-calls s q m;
       from-power-up = λ a b l k. same-calls s (powered-agree c a b l k) m;
-      doubled = λ few a b a′ b′ l k l′ k′ cs′ ds′ p q.
-          let x = demand2 s h few a a′ l l′ cs cs′ p in
-          let y = demand2 s h few b b′ k k′ ds ds′ q in
-          (x .finished, y .finished, pairs-square (same-shown s) (x .cycles) (y .cycles) (same-cycles s (powered-agree c a b l k) m));
+      doubled = λ buf g a b a′ b′ l k l′ k′ cs′ ds′ p q.
+          let x = demand2 s buf g .paired a a′ l l′ cs cs′ p in
+          let y = demand2 s buf g .paired b b′ k k′ ds ds′ q in
+          (x .finished, y .finished, pairs-square (same-shown s _) (x .cycles) (y .cycles) (same-cycles s (powered-agree c a b l k) m));
     }

@@ -12,27 +12,30 @@ pub data Call : Type 0 where
   step : (row nets : List ℕ) → Call
   run : (k : ℕ) (rows outputs : List ℕ) → Call
 
+-- the buffer that a call is lent
 unfoldable pub lent : Call → List ℕ
 lent (step row nets) = nets
 lent (run k rows outputs) = outputs
 
+-- the refusal that a call meets
 unfoldable pub refusalOf : (s st : List ℕ) → Call → Option Refusal
 refusalOf s st (step row nets) = stepRefusal s st row nets
 refusalOf s st (run k rows outputs) = runRefusal s st k rows outputs
 
-pub data Said : Type 0 where
-  stepped : Answer Verdict → Said
-  ran : Answer FirstFlow → Said
+-- what a call answers
+pub data CallAnswer : Type 0 where
+  stepped : Answer Verdict → CallAnswer
+  ran : Answer FirstFlow → CallAnswer
 
 -- what one call gives: its answer, what it leaves in its buffer and in the state, and its cycles, each as the step with the same row
-pub record Made : Type 0 where
-  pub answer : Said
+pub record CallResult : Type 0 where
+  pub answer : CallAnswer
   pub buffer : List ℕ
   pub state : List ℕ
   pub cycles : List Stepped
 
-unfoldable pub madeBy : (s st : List ℕ) → Call → Made
-madeBy s st (step row nets) =
+unfoldable pub callResult : (s st : List ℕ) → Call → CallResult
+callResult s st (step row nets) =
     let o = stepOf s st row nets in
     record {
       answer = stepped (o .answer);
@@ -40,7 +43,7 @@ madeBy s st (step row nets) =
       state = o .state;
       cycles = elim (stepRefusal s st row nets) [ none ↦ o ∷ [] | some r ↦ [] ];
     }
-madeBy s st (run k rows outputs) =
+callResult s st (run k rows outputs) =
     let o = runOf s st k rows outputs in
     record {
       answer = ran (o .answer);
@@ -49,35 +52,36 @@ madeBy s st (run k rows outputs) =
       cycles = elim (runRefusal s st k rows outputs) [ none ↦ stepsOf s st k rows | some r ↦ [] ];
     }
 
-unfoldable pub history : (s st : List ℕ) → List Call → List Made
+-- what the calls of a list give, one after the other
+unfoldable pub history : (s st : List ℕ) → List Call → List CallResult
 history s st [] = []
-history s st (c ∷ cs) = let m = madeBy s st c in m ∷ history s (m .state) cs
+history s st (c ∷ cs) = let m = callResult s st c in m ∷ history s (m .state) cs
 
 -- the calls of a list that are not refused
 unfoldable pub accepted : (s st : List ℕ) → List Call → List Call
 accepted s st [] = []
 accepted s st (c ∷ cs) =
-    elim (refusalOf s st c) [
-      | none ↦ c ∷ accepted s (madeBy s st c .state) cs
-      | some r ↦ accepted s st cs
-    ]
+    let rest = accepted s (callResult s st c .state) cs in
+    elim (refusalOf s st c) [ none ↦ c ∷ rest | some r ↦ rest ]
 
 -- all cycles of a list of calls
-unfoldable pub cyclesIn : List Made → List Stepped
+unfoldable pub cyclesIn : List CallResult → List Stepped
 cyclesIn [] = []
 cyclesIn (m ∷ ms) = m .cycles ++ cyclesIn ms
 
-pub data TurnedBack (r : Refusal) : Said → Type 0 where
+-- the answer is the refusal r
+pub data TurnedBack (r : Refusal) : CallAnswer → Type 0 where
   a-step : TurnedBack r (stepped (refused r))
   a-run : TurnedBack r (ran (refused r))
 
-pub data Finished : Said → Type 0 where
+-- the answer is no refusal
+pub data Finished : CallAnswer → Type 0 where
   a-step : {v : Verdict} → Finished (stepped (done v))
   a-run : {f : FirstFlow} → Finished (ran (done f))
 
-pub data AllFinished : List Made → Type 0 where
+pub data AllFinished : List CallResult → Type 0 where
   nil : AllFinished []
-  cons : {m : Made} {ms : List Made} → Finished (m .answer) → AllFinished ms → AllFinished (m ∷ ms)
+  cons : {m : CallResult} {ms : List CallResult} → Finished (m .answer) → AllFinished ms → AllFinished (m ∷ ms)
 
 -- the cycles of an accepted call are steps: a step is its own, and a run is as its steps
 pub data InSteps (s st : List ℕ) : Call → Type 0 where

@@ -1,6 +1,6 @@
 -- What is claimed of gates, cycles, calls and the doubled netlist together.
 pub mod Examples
-pub mod TurnedBack
+pub mod Unchanged
 pub mod Steps
 pub mod History
 pub mod Pairing

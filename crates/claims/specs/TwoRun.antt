@@ -5,12 +5,12 @@ use mathlib.Core.List.{List, [], _∷_, Forall₂}
 use mathlib.Core.Option.{none}
 use lib.ListN.{length, getD}
 use Rattle.gates.specs.Relations.{Agree}
-use Rattle.netlist.specs.Image.{sizesOf, netsOf}
+use Rattle.netlist.specs.Image.{sizesOf}
 use Rattle.netlist.specs.declared.answer.Refusal.{Refusal}
 use Rattle.netlist.specs.Check.{checkRefusal}
 use Rattle.tracker.specs.Calls.{Stepped, powerUpOf}
-use Rattle.doubling.specs.Doubled.{doubledSize, doubledImage}
-use Rattle.claims.specs.History.{Call, step, run, lent, Made, madeBy, history, accepted, cyclesIn, TurnedBack, Finished, AllFinished, InSteps}
+use Rattle.doubling.specs.Doubled.{doubleRefusal, doubleOf}
+use Rattle.claims.specs.History.{Call, step, run, lent, CallResult, callResult, history, accepted, cyclesIn, TurnedBack, Finished, AllFinished, InSteps}
 use Rattle.claims.specs.Pairing.{Again, shown}
 
 -- what may stand at one place of the two lists
@@ -26,7 +26,7 @@ pub record SameCycle (o o′ : Stepped) : Type 0 where
 
 -- at one place, from the states st and st′: the same refusal, which leaves everything as it was and has no cycle; or the same answer
 -- with bytes that agree, in each cycle too, where the cycles are those of steps
-pub data SameCall (s st st′ : List ℕ) (c d : Call) (m n : Made) : Type 0 where
+pub data SameCall (s st st′ : List ℕ) (c d : Call) (m n : CallResult) : Type 0 where
   turned-back :
       (r : Refusal) → TurnedBack r (m .answer) → TurnedBack r (n .answer)
       → m .buffer ≡ lent c → n .buffer ≡ lent d → m .state ≡ st → n .state ≡ st′ → m .cycles ≡ [] → n .cycles ≡ []
@@ -41,9 +41,9 @@ pub data SameCalls (s : List ℕ) : List ℕ → List ℕ → List Call → List
   nil : {st st′ : List ℕ} → SameCalls s st st′ [] []
   cons :
       {st st′ : List ℕ} {c d : Call} {cs ds : List Call}
-      → SameCall s st st′ c d (madeBy s st c) (madeBy s st′ d)
-      → Agree (madeBy s st c .state) (madeBy s st′ d .state)
-      → SameCalls s (madeBy s st c .state) (madeBy s st′ d .state) cs ds
+      → SameCall s st st′ c d (callResult s st c) (callResult s st′ d)
+      → Agree (callResult s st c .state) (callResult s st′ d .state)
+      → SameCalls s (callResult s st c .state) (callResult s st′ d .state) cs ds
       → SameCalls s st st′ (c ∷ cs) (d ∷ ds)
 
 -- in the same cycle of two runs of the doubled image d: equal marks at the outputs, and equal values wherever the mark is 0
@@ -53,21 +53,22 @@ pub record SameShown (d : List ℕ) (o o′ : Stepped) : Type 0 where
       (j : ℕ) → 2 * j + 1 < sizesOf d .outputs → getD (shown d o) (2 * j + 1) 0 ≡ 0
       → getD (shown d o) (2 * j) 0 ≡ getD (shown d o′) (2 * j) 0
 
--- a and b are the bytes in the two lists' states before power-up, and a′ and b′ those for the doubled image
+-- from any two states that agree; from power-up, where the two lists' states held the bytes a and b before; and on the doubled image that
+-- doubling writes into buf, from its own power-up of states that held a′ and b′
 pub record TwoRun (s : List ℕ) (cs ds : List Call) : Type 0 where
   pub calls : (st st′ : List ℕ) → Agree st st′ → SameCalls s st st′ cs ds
   pub from-power-up :
       (a b : List ℕ) → length a ≡ sizesOf s .registers → length b ≡ sizesOf s .registers
       → SameCalls s (powerUpOf s a .state) (powerUpOf s b .state) cs ds
   pub doubled :
-      doubledSize (netsOf s) ≤ 8192
-      → (a b a′ b′ : List ℕ) → length a ≡ sizesOf s .registers → length b ≡ sizesOf s .registers
-      → length a′ ≡ 2 * sizesOf s .registers → length b′ ≡ 2 * sizesOf s .registers
+      (buf : List ℕ) → doubleRefusal s buf ≡ none
+      → let d = doubleOf s buf .image in
+      (a b a′ b′ : List ℕ) → length a ≡ sizesOf s .registers → length b ≡ sizesOf s .registers
+      → length a′ ≡ sizesOf d .registers → length b′ ≡ sizesOf d .registers
       → (cs′ ds′ : List Call)
-      → Forall₂ (Again (doubledImage s)) (accepted s (powerUpOf s a .state) cs) cs′
-      → Forall₂ (Again (doubledImage s)) (accepted s (powerUpOf s b .state) ds) ds′
-      → let d = doubledImage s in
-      let ms = history d (powerUpOf d a′ .state) cs′ in
+      → Forall₂ (Again d) (accepted s (powerUpOf s a .state) cs) cs′
+      → Forall₂ (Again d) (accepted s (powerUpOf s b .state) ds) ds′
+      → let ms = history d (powerUpOf d a′ .state) cs′ in
       let ns = history d (powerUpOf d b′ .state) ds′ in
       AllFinished ms × AllFinished ns × Forall₂ (SameShown d) (cyclesIn ms) (cyclesIn ns)
 

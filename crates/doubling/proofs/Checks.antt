@@ -14,7 +14,6 @@ use Rattle.netlist.specs.declared.answer.Refusal.{Refusal}
 use Rattle.netlist.proofs.Refusals.{accepted}
 use Rattle.netlist.proofs.Checked.{Passes, is-const, is-input, is-reg, is-not, is-and, is-or, is-xor, is-mux, is-out, AllPass, nil, cons, Checked, check-none, length-nets}
 use Rattle.netlist.proofs.Encoding.{encode-length, sizes-back, nets-back, Bytes, encode-bytes}
-use Rattle.tracker.specs.Calls.{done, refused}
 use Rattle.doubling.specs.Doubled.{doubledSize, valueNet, markNet, groupOf, groupAt, groupsFrom, doubledNets, doubledImage, doubleRefusal, doubleOf}
 use Rattle.doubling.proofs.Positions.{two-or-more, doubled-length, doubled-passes}
 
@@ -115,13 +114,13 @@ double-none s buf =
     (λ h. let t = simp (accepted, check-none) at h in (t .0, t .1 .0, t .1 .1), λ h. simp (accepted, check-none) (h .0, (h .1, h .2)))
 
 -- an accepted call writes the doubled image: 17 is never given
-pub double-accepted : (s buf : List ℕ) → doubleRefusal s buf ≡ none → doubleOf s buf ≡ record { answer = done tt; image = doubledImage s }
+pub double-accepted : (s buf : List ℕ) → doubleRefusal s buf ≡ none → doubleOf s buf ≡ record { refusal = none; image = doubledImage s }
 unfolding doubleOf
 double-accepted s buf h =
     let t = double-none s buf .0 h in
     let e = check-none (doubledImage s) .1 (doubled-checked s (t .0) (t .1)) in
     rw (h, doubleOf) (rw e)
 
-pub double-refused : (s buf : List ℕ) (r : Refusal) → doubleRefusal s buf ≡ some r → doubleOf s buf ≡ record { answer = refused r; image = buf }
+pub double-refused : (s buf : List ℕ) (r : Refusal) → doubleRefusal s buf ≡ some r → doubleOf s buf ≡ record { refusal = some r; image = buf }
 unfolding doubleOf
 double-refused s buf r h = rw (h, doubleOf)

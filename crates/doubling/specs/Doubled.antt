@@ -9,9 +9,8 @@ use Rattle.netlist.specs.declared.image.Net.{Net}
 use Rattle.netlist.specs.Image.{sizesOf, net, netsOf, encode}
 use Rattle.netlist.specs.declared.answer.Refusal.{Refusal}
 use Rattle.netlist.specs.Check.{refusal, refuse, _then_, checkRefusal, badLength}
-use Rattle.tracker.specs.Calls.{Answer, done, refused}
 
--- for kinds 0 to 8
+-- the group lengths for kinds 0 to 8
 unfoldable pub groupLengths : List ℕ
 groupLengths = 2 ∷ 2 ∷ 2 ∷ 2 ∷ 6 ∷ 8 ∷ 2 ∷ 7 ∷ 2 ∷ []
 
@@ -133,8 +132,9 @@ doubledImage s =
     })
     (doubledNets (netsOf s))
 
+-- doubling: the refusal that it gives, or none, and the lent buffer
 pub record Doubling : Type 0 where
-  pub answer : Answer Unit
+  pub refusal : Option Refusal
   pub image : List ℕ
 
 unfoldable pub doubleRefusal : (s buf : List ℕ) → Option Refusal
@@ -149,10 +149,10 @@ doubleOf s buf =
     elim (doubleRefusal s buf) [
       | none ↦
           elim (checkRefusal (doubledImage s)) [
-            | none ↦ record { answer = done tt; image = doubledImage s }
-            | some r ↦ record { answer = refused (refusal 17 0); image = replicate (length buf) 0 }
+            | none ↦ record { refusal = none; image = doubledImage s }
+            | some r ↦ record { refusal = some (refusal 17 0); image = replicate (length buf) 0 }
           ]
-      | some r ↦ record { answer = refused r; image = buf }
+      | some r ↦ record { refusal = some r; image = buf }
     ]
 
 -- how the source's bytes stand in the doubled netlist: each byte v + 2 × t as the two bytes v, t

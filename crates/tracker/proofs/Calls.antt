@@ -17,15 +17,15 @@ use Rattle.netlist.proofs.Pairs.{pairs-take, pairs-drop}
 use Rattle.netlist.proofs.Refusals.{accepted, Codes}
 use Rattle.netlist.proofs.Checked.{Checked, check-none}
 use Rattle.tracker.specs.Cycle.{clocked, cycleOf, cyclesOf, stateAfter}
-use Rattle.tracker.specs.Calls.{done, refused, start, starts, powerUpRefusal, powerUpOf, asStep, stepRefusal, stepOf, asRun, runRefusal, runOf}
+use Rattle.tracker.specs.Calls.{refused, start, starts, powerUpRefusal, powerUpOf, asStep, stepRefusal, stepOf, asRun, runRefusal, runOf}
 use Rattle.tracker.proofs.Cycles.{registers-related, registers-length, codes-cycle}
 
 -- POWER-UP
-pub power-up-accepted : (s st : List ℕ) → powerUpRefusal s st ≡ none → powerUpOf s st ≡ record { answer = done tt; state = starts (netsOf s) }
+pub power-up-accepted : (s st : List ℕ) → powerUpRefusal s st ≡ none → powerUpOf s st ≡ record { refusal = none; state = starts (netsOf s) }
 unfolding powerUpOf
 power-up-accepted s st h = rw (h, powerUpOf)
 
-pub power-up-refused : (s st : List ℕ) (r : Refusal) → powerUpRefusal s st ≡ some r → powerUpOf s st ≡ record { answer = refused r; state = st }
+pub power-up-refused : (s st : List ℕ) (r : Refusal) → powerUpRefusal s st ≡ some r → powerUpOf s st ≡ record { refusal = some r; state = st }
 unfolding powerUpOf
 power-up-refused s st r h = rw (h, powerUpOf)
 
@@ -106,8 +106,8 @@ starts-state {s} c =
       codes = registers-related Code (λ x. start-code (x .b)) (netsOf s);
     }
 
-pub powered-up : (s a : List ℕ) → Checked s → length a ≡ sizesOf s .registers → powerUpOf s a .state ≡ starts (netsOf s)
-powered-up s a c l = rw (power-up-accepted s a (power-up-none s a .1 (c, l)))
+pub powered-up : (s a : List ℕ) → Checked s → length a ≡ sizesOf s .registers → powerUpOf s a ≡ record { refusal = none; state = starts (netsOf s) }
+powered-up s a c l = power-up-accepted s a (power-up-none s a .1 (c, l))
 
 pub cycle-state : {s st row : List ℕ} → Ready s st (sizesOf s .inputs) row → IsState s (cycleOf (netsOf s) row st .state)
 cycle-state {s} {st} {row} r =

@@ -10,6 +10,7 @@ use Rattle.netlist.specs.declared.answer.Refusal.{Refusal}
 use Rattle.netlist.specs.Check.{refuse, _then_, checkRefusal, badByte, badLength}
 use Rattle.tracker.specs.Cycle.{Verdict, registers, Cycle, cycleOf, cyclesOf, outputsOf, stateAfter, FirstFlow, firstFlow}
 
+-- the answer of a call that has a result
 pub data Answer (A : Type 0) : Type 0 where
   done : A → Answer A
   refused : Refusal → Answer A
@@ -21,8 +22,9 @@ start b = cond (eqb b 1) 1 0
 unfoldable pub starts : List Net → List ℕ
 starts xs = registers (λ x. start (x .b)) xs
 
+-- power-up: the refusal that it gives, or none, and the state
 pub record PoweredUp : Type 0 where
-  pub answer : Answer Unit
+  pub refusal : Option Refusal
   pub state : List ℕ
 
 unfoldable pub powerUpRefusal : (s st : List ℕ) → Option Refusal
@@ -31,10 +33,11 @@ powerUpRefusal s st = checkRefusal s then badLength 10 (sizesOf s .registers) st
 unfoldable pub powerUpOf : (s st : List ℕ) → PoweredUp
 powerUpOf s st =
     elim (powerUpRefusal s st) [
-      | none ↦ record { answer = done tt; state = starts (netsOf s) }
-      | some r ↦ record { answer = refused r; state = st }
+      | none ↦ record { refusal = none; state = starts (netsOf s) }
+      | some r ↦ record { refusal = some r; state = st }
     ]
 
+-- a step: its answer, the state, and the lent buffer of net bytes
 pub record Stepped : Type 0 where
   pub answer : Answer Verdict
   pub state : List ℕ
@@ -60,6 +63,7 @@ stepOf s st row nets =
       | some r ↦ record { answer = refused r; state = st; nets = nets }
     ]
 
+-- a run: its answer, the state, and the lent buffer of output bytes
 pub record Ran : Type 0 where
   pub answer : Answer FirstFlow
   pub state : List ℕ

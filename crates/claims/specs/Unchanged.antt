@@ -2,17 +2,18 @@
 use Prim.Native.Nat.{ℕ}
 use mathlib.Core.Path.{_≡_}
 use mathlib.Core.List.{List}
+use mathlib.Core.Option.{some}
 use Rattle.netlist.specs.declared.answer.Refusal.{Refusal}
 use Rattle.tracker.specs.Calls.{refused, powerUpOf, stepOf, runOf}
 use Rattle.doubling.specs.Doubled.{doubleOf}
 
 -- proved as `unchanged`
 pub record Unchanged : Type 0 where
-  pub power-up : (s st : List ℕ) (r : Refusal) → powerUpOf s st .answer ≡ refused r → powerUpOf s st .state ≡ st
+  pub power-up : (s st : List ℕ) (r : Refusal) → powerUpOf s st .refusal ≡ some r → powerUpOf s st .state ≡ st
   pub step :
       (s st row nets : List ℕ) (r : Refusal) → stepOf s st row nets .answer ≡ refused r
       → (stepOf s st row nets .state ≡ st) × (stepOf s st row nets .nets ≡ nets)
   pub run :
       (s st : List ℕ) (k : ℕ) (rows outputs : List ℕ) (r : Refusal) → runOf s st k rows outputs .answer ≡ refused r
       → (runOf s st k rows outputs .state ≡ st) × (runOf s st k rows outputs .outputs ≡ outputs)
-  pub double : (s buf : List ℕ) (r : Refusal) → doubleOf s buf .answer ≡ refused r → doubleOf s buf .image ≡ buf
+  pub double : (s buf : List ℕ) (r : Refusal) → doubleOf s buf .refusal ≡ some r → doubleOf s buf .image ≡ buf

@@ -9,14 +9,17 @@ use Rattle.tracker.specs.Calls.{done, refused, powerUpRefusal, powerUpOf, asSte
 use Rattle.tracker.proofs.Calls.{power-up-accepted, power-up-refused, step-accepted, step-refused, run-accepted, run-refused}
 use Rattle.doubling.specs.Doubled.{doubleRefusal, doubleOf}
 use Rattle.doubling.proofs.Checks.{double-accepted, double-refused}
-use Rattle.claims.specs.TurnedBack.{Unchanged}
+use Rattle.claims.specs.Unchanged.{Unchanged}
 
 -- what is done is not refused
 not-refused : {A : Type 0} {a : A} {r : Refusal} → done a ≡ refused r → ⊥
 not-refused h = let z : _≡_ {A = ℕ} 0 1 = cc in omega arith
 
-power-up : (s st : List ℕ) (r : Refusal) (o : Option Refusal) → powerUpRefusal s st ≡ o → powerUpOf s st .answer ≡ refused r → powerUpOf s st .state ≡ st
-power-up s st r none e h = absurd (not-refused (rw (power-up-accepted s st e) at h))
+not-some : {r : Refusal} → none ≡ some r → ⊥
+not-some h = let z : _≡_ {A = ℕ} 0 1 = cc in omega arith
+
+power-up : (s st : List ℕ) (r : Refusal) (o : Option Refusal) → powerUpRefusal s st ≡ o → powerUpOf s st .refusal ≡ some r → powerUpOf s st .state ≡ st
+power-up s st r none e h = absurd (not-some (rw (power-up-accepted s st e) at h))
 power-up s st r (some q) e h = rw (power-up-refused s st q e)
 
 step : (s st row nets : List ℕ) (r : Refusal) (o : Option Refusal) → stepRefusal s st row nets ≡ o → stepOf s st row nets .answer ≡ refused r
@@ -33,8 +36,8 @@ unfolding asRun
 run s st k rows outputs r none e h = absurd (not-refused (rw (run-accepted s st k rows outputs e) at h))
 run s st k rows outputs r (some q) e h = rw (run-refused s st k rows outputs q e) (refl, refl)
 
-double : (s buf : List ℕ) (r : Refusal) (o : Option Refusal) → doubleRefusal s buf ≡ o → doubleOf s buf .answer ≡ refused r → doubleOf s buf .image ≡ buf
-double s buf r none e h = absurd (not-refused (rw (double-accepted s buf e) at h))
+double : (s buf : List ℕ) (r : Refusal) (o : Option Refusal) → doubleRefusal s buf ≡ o → doubleOf s buf .refusal ≡ some r → doubleOf s buf .image ≡ buf
+double s buf r none e h = absurd (not-some (rw (double-accepted s buf e) at h))
 double s buf r (some q) e h = rw (double-refused s buf q e)
 
 pub unchanged : Unchanged
