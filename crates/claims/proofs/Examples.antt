@@ -1,14 +1,27 @@
 -- Document 01's examples C1 to C12 hold, by computation.
 use mathlib.Core.Path.{refl}
 use Rattle.gates.specs.Rules.{value, mark, byte, andMark, orMark, xorMark, muxMark, notByte, andByte, orByte, xorByte, muxByte, gateByte}
-use Rattle.netlist.specs.Image.{sizesOf, netAt, netsFrom, netsOf}
-use Rattle.tracker.specs.Cycle.{pinByte, netByte, past, walk, bytesOf, outputsFrom, registers, clocked, cycleOf, cyclesOf, outputsOf}
-use Rattle.tracker.specs.Calls.{start, starts}
+use Rattle.netlist.specs.Image.{sizesOf, netAt, netsFrom, netsOf, count}
+use Rattle.netlist.specs.Check.{netRefusal, netsRefusal, checkRefusal, badByte, badLength}
+use Rattle.tracker.specs.Cycle.{pinByte, netByte, past, walk, bytesOf, verdictFrom, outputsFrom, registers, clocked, cycleOf, cyclesOf, outputsOf, stateAfter, firstOf, firstFlow}
+use Rattle.tracker.specs.Calls.{start, starts, powerUpRefusal, powerUpOf, asRun, runRefusal, runOf}
 use Rattle.claims.specs.Examples.{counter, counted, Examples}
 
+-- what is computed with
+gating : Unit {0}
+unfolding value mark byte andMark orMark xorMark muxMark notByte andByte orByte xorByte muxByte gateByte
+gating = tt
+
+checking : Unit {0}
+unfolding sizesOf netAt netsFrom netsOf count netRefusal netsRefusal checkRefusal badByte badLength powerUpRefusal runRefusal
+checking = tt
+
+running : Unit {0}
+unfolding pinByte netByte past walk bytesOf verdictFrom outputsFrom registers clocked cycleOf cyclesOf outputsOf stateAfter firstOf firstFlow start starts powerUpOf asRun runOf
+running = tt
+
 pub examples : Examples
-unfolding value mark byte andMark orMark xorMark muxMark notByte andByte orByte xorByte muxByte gateByte sizesOf netAt netsFrom netsOf
-    pinByte netByte past walk bytesOf outputsFrom registers clocked cycleOf cyclesOf outputsOf start starts counter counted
+unfolding gating checking running counter counted
 examples =
     record {
       c1 = refl;

@@ -1,6 +1,7 @@
--- The theorems. In `Examples`: examples. In `Unchanged`: unchanged. In `Steps`: run-is-steps.
--- In `Pairing`: doubled-checks, doubling-writes, demand2, doubled-unseen. In `TwoRun`: demand3.
+-- The theorems. In `Examples`: examples. In `Gates`: mux-composed, gates-monotone. In `Unchanged`: unchanged. In `Steps`: run-is-steps.
+-- In `Pairing`: doubled-checks, doubling-writes, doubled-reads, demand2, doubled-unseen. In `TwoRun`: demand3.
 pub mod Examples
+pub mod Gates
 pub mod Unchanged
 pub mod Steps
 pub mod History

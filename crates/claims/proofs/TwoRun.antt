@@ -163,6 +163,7 @@ pub demand3 : Demand3
 demand3 s h cs ds m =
     let c = check-none s .0 h in
     record {
+      powered-up = λ a l. rw (powered-up s a c l);
       calls = λ st st′ q. same-calls s q m;
       from-power-up = λ a b l k. same-calls s (powered-agree c a b l k) m;
       doubled = λ buf g a b a′ b′ l k l′ k′ cs′ ds′ p q.

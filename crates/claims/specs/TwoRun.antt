@@ -56,6 +56,7 @@ pub record SameShown (d : List ℕ) (o o′ : Stepped) : Type 0 where
 -- from any two states that agree; from power-up, where the two lists' states held the bytes a and b before; and on the doubled image that
 -- doubling writes into buf, from its own power-up of states that held a′ and b′
 pub record TwoRun (s : List ℕ) (cs ds : List Call) : Type 0 where
+  pub powered-up : (a : List ℕ) → length a ≡ sizesOf s .registers → powerUpOf s a .refusal ≡ none
   pub calls : (st st′ : List ℕ) → Agree st st′ → SameCalls s st st′ cs ds
   pub from-power-up :
       (a b : List ℕ) → length a ≡ sizesOf s .registers → length b ≡ sizesOf s .registers

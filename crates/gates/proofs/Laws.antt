@@ -5,7 +5,7 @@ use mathlib.Core.Path.{_≡_, refl}
 use mathlib.Core.Bool.{Bool, true, false, _&&_, _||_, not, cond, Bool·beq}
 use lib.Dec.{T, eqb, lit≤}
 use Rattle.gates.specs.Rules.{value, mark, byte, andMark, orMark, xorMark, muxMark, notByte, andByte, orByte, xorByte, muxByte, gateByte}
-use Rattle.gates.specs.Relations.{AgreeByte, same, low-high, high-low, BelowByte, level, low, high}
+use Rattle.gates.specs.Relations.{AgreeByte, same, low-high, high-low, BelowByte, equal, zero-marked, one-marked}
 
 -- a relation of bytes, as a test of the value and the mark of each
 abbrev Test : Type 0
@@ -174,19 +174,19 @@ below v t w u = Bool·beq v w && (not t || u)
 
 below-into : {x y : ℕ} → BelowByte x y → T (below (value x) (mark x) (value y) (mark y))
 unfolding value mark
-below-into {x} level = related-to-itself below tt (value x) (mark x)
-below-into low = tt
-below-into high = tt
+below-into {x} equal = related-to-itself below tt (value x) (mark x)
+below-into zero-marked = tt
+below-into one-marked = tt
 
 below-back : (v t w u : Bool) → T (below v t w u) → BelowByte (byte v t) (byte w u)
 unfolding byte
-below-back true true true true h = level
-below-back true false true true h = high
-below-back true false true false h = level
+below-back true true true true h = equal
+below-back true false true true h = one-marked
+below-back true false true false h = equal
 below-back true true true false h = absurd h
-below-back false true false true h = level
-below-back false false false true h = low
-below-back false false false false h = level
+below-back false true false true h = equal
+below-back false false false true h = zero-marked
+below-back false false false false h = equal
 below-back false true false false h = absurd h
 below-back true t false u h = absurd h
 below-back false t true u h = absurd h
@@ -197,9 +197,9 @@ gates-monotone = gates {r = below} (record { into = below-into; back = below-bac
 
 pub below-mark : {x y : ℕ} → BelowByte x y → mark y ≡ false → mark x ≡ false
 unfolding mark
-below-mark level h = h
-below-mark low h = refl
-below-mark high h = refl
+below-mark equal h = h
+below-mark zero-marked h = refl
+below-mark one-marked h = refl
 
 -- PLAIN VALUES: a gate's value is that of its pins' values, whatever their marks
 pub record Plain (x y : ℕ) : Type 0 where

@@ -8,7 +8,7 @@ use mathlib.Core.Bool.{Bool, true, false, _&&_, cond}
 use lib.Dec.{eqb, lit≤}
 use lib.ListN.{length, getD}
 use Rattle.gates.specs.Rules.{mark, gateByte}
-use Rattle.gates.specs.Relations.{AgreeByte, same, Agree, BelowByte, level, Below}
+use Rattle.gates.specs.Relations.{AgreeByte, same, Agree, BelowByte, equal, Below}
 use Rattle.gates.proofs.Laws.{cond-related, gates-agree, agree-mark, gates-monotone, below-mark, Plain, gates-plain, Code, gates-code}
 use Rattle.netlist.specs.declared.image.Net.{Net}
 use Rattle.netlist.specs.Image.{count}
@@ -164,14 +164,14 @@ and-below true t u h e = h e
 and-below false t u h e = refl
 
 below-kept : Kept BelowByte gateByte
-below-kept = record { const = λ a h. level; gate = gates-monotone }
+below-kept = record { const = λ a h. equal; gate = gates-monotone }
 
 below-verdict : Judged BelowByte Clearer
 unfolding verdictFrom
 below-verdict i [] bs cs h = record { clearer = λ e. refl }
 below-verdict i (x ∷ xs) bs cs h =
     clearer-cond i (eqb (x .kind) 8 && eqb (x .b) 1 && mark (getD bs i 0)) (eqb (x .kind) 8 && eqb (x .b) 1 && mark (getD cs i 0))
-    (and-below (eqb (x .kind) 8 && eqb (x .b) 1) (mark (getD bs i 0)) (mark (getD cs i 0)) (below-mark (pairs-getD i 0 level h)))
+    (and-below (eqb (x .kind) 8 && eqb (x .b) 1) (mark (getD bs i 0)) (mark (getD cs i 0)) (below-mark (pairs-getD i 0 equal h)))
     (below-verdict (suc i) xs bs cs h)
 
 pub below-cycles : {n : ℕ} {xs : List Net} → AllPass n 0 xs → (i k : ℕ) {rows rows′ st st′ : List ℕ} → Below rows rows′ → Below st st′
