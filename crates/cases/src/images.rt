@@ -32,6 +32,17 @@ pub fn two(counts: [u8; 3], first: [u8; 4], second: [u8; 4]) -> [u8; 22] {
     s
 }
 
+// CONST 0; OUT 0, free; NOT 1.
+pub fn three_nets() -> [u8; 29] {
+    *b"\
+        \x03\0\0\0\0\0\x01\0\
+        \0\x08\x03\
+        \0\0\0\0\0\0\
+        \0\0\0\0\0\0\
+        \x01\0\0\0\0\0\
+        "
+}
+
 // The counter of source document 001, Figure 3: 0 INPUT; 1 REG(4, start 0); 2 NOT 1; 3 NOT 0; 4 AND(2, 3); 5 OUT 1, protected.
 pub fn counter() -> [u8; 50] {
     *b"\

@@ -7,6 +7,7 @@ fn main() {
     checking::small_examples();
     checking::lengths_and_counts();
     checking::kinds_and_pins();
+    checking::high_bytes();
     checking::values_and_unlisted();
     checking::order();
     checking::limits();

@@ -1,5 +1,5 @@
 -- Demand 3: the two-run property, one claim about two whole lists of calls (noninterference in the literature).
-use Prim.Native.Nat.{ℕ, _+_, _*_, _≤_, _<_}
+use Prim.Native.Nat.{ℕ, _+_, _*_, _<_}
 use mathlib.Core.Path.{_≡_}
 use mathlib.Core.List.{List, [], _∷_, Forall₂}
 use mathlib.Core.Option.{none}

@@ -9,6 +9,6 @@ use Rattle.gates.specs.Rules.{gateByte}
 abbrev pub codeIndex : (kind a b c : ℕ) → ℕ
 codeIndex kind a b c = ((kind * 4 + a) * 4 + b) * 4 + c
 
--- a table whose every code is the byte of its gate
+-- a table whose every code is the gate's byte; at kinds 0 to 2, which are no gates, that is the byte of pin a
 pub record GateTable (t : List ℕ) : Type 0 where
   pub codes : (kind a b c : ℕ) → kind < 9 → a < 4 → b < 4 → c < 4 → getD t (codeIndex kind a b c) 0 ≡ gateByte kind a b c

@@ -5,7 +5,8 @@ ghost use Rattle.gates.specs.Table.{GateTable};
 ghost use Rattle.gates.specs.Rules.{gateByte};
 
 // The codes of all gates: kinds 0 to 8, four lines to a kind, one for each byte of pin a; in a line, four codes for each byte of
-// pin b, one for each byte of pin c. A kind that has no such pin has the same code for each of its bytes.
+// pin b, one for each byte of pin c. A kind that lacks a pin has the same code for each byte of it. Kinds 0 to 2 are no gates: their
+// code is the byte of pin a.
 const TABLE: [u8; 576] = *b"\
     \x00\x00\x00\x00\x00\x00\x00\x00\x00\x00\x00\x00\x00\x00\x00\x00\
     \x01\x01\x01\x01\x01\x01\x01\x01\x01\x01\x01\x01\x01\x01\x01\x01\
@@ -52,7 +53,7 @@ pub fn table() -> [u8; 576]
     TABLE
 }
 
-// The byte of a net of kind 3 to 8 from the bytes of its pins.
+// The byte of a gate or OUT from the bytes of its pins.
 pub fn gate_byte(t: &[u8; 576], kind: u8, a: u8, b: u8, c: u8) -> u8
     requires { ⌜ GateTable (now t) ⌝ }
     requires { ⌜ kind < 9 ⌝ }

@@ -84,11 +84,11 @@ checkRefusal s =
     then netsRefusal (sizesOf s .nets) 0 (netsOf s)
     then refuse (wrongCounts s) 8 0
 
--- the first byte above 3 of a list, as the refusal number with its index
+-- the refusal at the index of the first byte above 3 in a list, the first of which has index i
 unfoldable pub badByte : (number i : ℕ) → List ℕ → Option Refusal
 badByte number i [] = none
 badByte number i (x ∷ xs) = refuse (ltb 3 x) number i then badByte number (suc i) xs
 
--- refusal number where a list has not the length that it must have
+-- the refusal, at place 0, where a list is not n long
 unfoldable pub badLength : (number n : ℕ) → List ℕ → Option Refusal
 badLength number n xs = refuse (not (eqb (length xs) n)) number 0

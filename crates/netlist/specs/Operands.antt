@@ -4,7 +4,7 @@ use mathlib.Core.Bool.{Bool, _&&_, _||_, not}
 use lib.Dec.{eqb, leb}
 use Rattle.gates.specs.Kinds.{CONST, INPUT, NOT, AND, MUX, OUT}
 
--- whether a kind lists operand a, b, c
+-- whether a kind, 0 to 8, lists operand a, b, c
 abbrev pub listsA : ℕ → Bool
 listsA k = not (eqb k INPUT)
 

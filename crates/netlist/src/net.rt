@@ -1,4 +1,5 @@
-// The tests of one net: refusals 4 to 7. Each test is worked out without a branch, since the kinds of neighbouring nets differ.
+// The tests of one net: refusals 4 to 7. Each condition is worked out without a branch on the kind, so that mixed kinds cost no
+// mispredicted branches.
 use crate::answer::Outcome;
 use crate::answer::refused;
 use crate::image::Net;

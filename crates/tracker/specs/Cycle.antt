@@ -22,6 +22,7 @@ pub record Walk : Type 0 where
 unfoldable pub pinByte : (bs : List ℕ) (p : ℕ) → ℕ
 pinByte bs p = getD bs p 0
 
+-- the byte of a net: a CONST's value, the next row byte for an INPUT, the next state byte for a REG, and the rule for every other kind
 unfoldable pub netByte : Rule → Net → Walk → ℕ
 netByte rule x w =
     cond (eqb (x .kind) CONST) (x .a)
@@ -50,19 +51,19 @@ pub data Verdict : Type 0 where
   clear : Verdict
   flow : ℕ → Verdict
 
--- the lowest-numbered protected OUT with mark 1 among xs, the first of which is net i
+-- a flow at the lowest-numbered protected OUT with mark 1 among nets, the first of which is net i; clear where there is none
 unfoldable pub verdictFrom : (i : ℕ) → List Net → (bs : List ℕ) → Verdict
 verdictFrom i [] bs = clear
 verdictFrom i (x ∷ xs) bs =
     cond (eqb (x .kind) OUT && eqb (x .b) 1 && mark (getD bs i 0)) (flow i) (verdictFrom (suc i) xs bs)
 
--- the bytes of the OUTs among xs, in net order
+-- the bytes of the OUTs among nets, the first of which is net i, in net order
 unfoldable pub outputsFrom : (i : ℕ) → List Net → (bs : List ℕ) → List ℕ
 outputsFrom i [] bs = []
 outputsFrom i (x ∷ xs) bs =
     cond (eqb (x .kind) OUT) (getD bs i 0 ∷ outputsFrom (suc i) xs bs) (outputsFrom (suc i) xs bs)
 
--- one byte for each register among xs, in net order
+-- one byte for each register among nets, in net order
 unfoldable pub registers : (Net → ℕ) → List Net → List ℕ
 registers f [] = []
 registers f (x ∷ xs) = cond (eqb (x .kind) REG) (f x ∷ registers f xs) (registers f xs)
@@ -77,6 +78,7 @@ pub record Cycle : Type 0 where
   pub outputs : List ℕ
   pub state : List ℕ
 
+-- one cycle: all nets are worked out, then the verdict is given, then the clock
 unfoldable pub cycleOf : List Net → (row state : List ℕ) → Cycle
 cycleOf xs row state =
     let bs = bytesOf gateByte xs row state in
@@ -89,10 +91,12 @@ cyclesOf xs i (suc k) rows state =
     let c = cycleOf xs (take i rows) state in
     c ∷ cyclesOf xs i k (drop i rows) (c .state)
 
+-- the output bytes, cycle after cycle
 unfoldable pub outputsOf : List Cycle → List ℕ
 outputsOf [] = []
 outputsOf (c ∷ cs) = c .outputs ++ outputsOf cs
 
+-- the state after the last cycle
 unfoldable pub stateAfter : (st : List ℕ) → List Cycle → List ℕ
 stateAfter state [] = state
 stateAfter state (c ∷ cs) = stateAfter (c .state) cs
@@ -102,11 +106,12 @@ pub record FirstFlow : Type 0 where
   pub cycle : ℕ
   pub verdict : Verdict
 
+-- the flow of cycle i, or else what comes later
 unfoldable pub firstOf : (i : ℕ) → Verdict → (later : FirstFlow) → FirstFlow
 firstOf i clear later = later
 firstOf i (flow n) later = record { cycle = i; verdict = flow n }
 
--- of cycles of which the first is cycle i
+-- the first flow among cycles, the first of which is cycle i
 unfoldable pub firstFlow : (i : ℕ) → List Cycle → FirstFlow
 firstFlow i [] = record { cycle = i; verdict = clear }
 firstFlow i (c ∷ cs) = firstOf i (c .verdict) (firstFlow (suc i) cs)
