@@ -8,11 +8,11 @@ use Rattle.gates.specs.Rules.{mark, gateByte}
 use Rattle.gates.specs.Kinds.{CONST, INPUT, REG, OUT}
 use Rattle.netlist.specs.declared.image.Net.{Net}
 
--- A rule gives the byte of a net of kind 3 to 8 from its kind and the bytes of its pins.
+-- a rule for the byte of a gate or OUT (kinds 3 to 8), from its kind and the bytes of its pins
 abbrev pub Rule : Type 0
-Rule = ℕ → ℕ → ℕ → ℕ → ℕ
+Rule = (kind a b c : ℕ) → ℕ
 
--- A walk through the nets: the bytes of those behind it, and the row and state bytes that no net has taken yet.
+-- how far a cycle has come in working out its nets, in net order: their bytes so far, and the row and state bytes that no net has taken yet
 pub record Walk : Type 0 where
   pub bytes : List ℕ
   pub row : List ℕ
@@ -30,7 +30,7 @@ netByte rule x w =
     (cond (eqb (x .kind) REG) (getD (w .state) 0 0)
     (rule (x .kind) (pinByte (w .bytes) (x .a)) (pinByte (w .bytes) (x .b)) (pinByte (w .bytes) (x .c)))))
 
--- past one net: an INPUT takes a row byte, a REG a state byte
+-- one net further: an INPUT takes a row byte, a REG a state byte
 unfoldable pub past : Rule → Net → Walk → Walk
 past rule x w =
     record {
@@ -39,6 +39,7 @@ past rule x w =
       state = drop (cond (eqb (x .kind) REG) 1 0) (w .state);
     }
 
+-- through all nets of a list
 unfoldable pub walk : Rule → List Net → Walk → Walk
 walk rule [] w = w
 walk rule (x ∷ xs) w = walk rule xs (past rule x w)
@@ -47,6 +48,7 @@ walk rule (x ∷ xs) w = walk rule xs (past rule x w)
 unfoldable pub bytesOf : Rule → List Net → (row state : List ℕ) → List ℕ
 bytesOf rule xs row state = walk rule xs (record { bytes = []; row = row; state = state }) .bytes
 
+-- clear, or a flow that carries the output's net
 pub data Verdict : Type 0 where
   clear : Verdict
   flow : ℕ → Verdict
@@ -72,6 +74,7 @@ registers f (x ∷ xs) = cond (eqb (x .kind) REG) (f x ∷ registers f xs) (regi
 unfoldable pub clocked : List Net → (bs : List ℕ) → List ℕ
 clocked xs bs = registers (λ x. pinByte bs (x .a)) xs
 
+-- what a cycle gives: the bytes of all nets, the verdict, the output bytes, and the state after the clock
 pub record Cycle : Type 0 where
   pub bytes : List ℕ
   pub verdict : Verdict
