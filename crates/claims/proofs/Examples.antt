@@ -36,4 +36,5 @@ examples =
       c10 = refl;
       c11 = refl;
       c12 = refl;
+      c12-flow = refl;
     }
