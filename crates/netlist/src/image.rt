@@ -4,6 +4,7 @@ ghost use Prim.Native.Nat.{_+_, _*_, _<_, _≤_};
 ghost use lib.ListN.{length};
 ghost use Rattle.netlist.specs.Image.{u16At, sizesOf, kindAt, operandAt, netAt};
 
+// N, I, R and O.
 pub struct Sizes {
     pub nets: usize,
     pub inputs: usize,
@@ -11,6 +12,7 @@ pub struct Sizes {
     pub outputs: usize,
 }
 
+// A net as it stands in the image: its kind and its operands.
 pub struct Net {
     pub kind: u8,
     pub a: usize,
@@ -32,6 +34,7 @@ pub fn u16_at(s: &[u8], p: usize) -> usize
     wide(s[p]) + 256 * wide(s[p + 1])
 }
 
+// The four sizes at the start of an image.
 pub fn sizes_of(s: &[u8]) -> Sizes
     requires { ⌜ 8 ≤ length (now s) ⌝ }
     ensures { λ r. ⌜ r ≡ sizesOf (now (s .entry)) ⌝ }

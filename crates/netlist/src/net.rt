@@ -15,6 +15,7 @@ ghost use mathlib.Core.Bool.{cond};
 ghost use Prim.Native.Nat.{_≤_};
 ghost use Rattle.netlist.specs.Check.{refusalIn, badPin, badValue, badUnlisted, netRefusal};
 
+// 5: a REG pin that is not below N, or another pin that is not below its net.
 fn bad_pin(n: usize, i: usize, x: Net) -> bool
     ensures { λ r. ⌜ r ≡ badPin n i x ⌝ }
 {
@@ -24,12 +25,14 @@ fn bad_pin(n: usize, i: usize, x: Net) -> bool
         | (x.kind == MUX) & (i <= x.c)
 }
 
+// 6: a CONST above 1, a start above 2, a policy above 1.
 fn bad_value(x: Net) -> bool
     ensures { λ r. ⌜ r ≡ badValue x ⌝ }
 {
     (x.kind == CONST) & (1 < x.a) | (x.kind == REG) & (2 < x.b) | (x.kind == OUT) & (1 < x.b)
 }
 
+// 7: an unlisted operand that is not 0.
 fn bad_unlisted(x: Net) -> bool
     ensures { λ r. ⌜ r ≡ badUnlisted x ⌝ }
 {
