@@ -1,11 +1,13 @@
 // Document 01's examples, executed: a line has an example and what the library answers, and the file stdout has what the document says.
 mod checking;
+mod gate_bytes;
 mod images;
-mod plain;
 mod print;
 
 fn main() {
-    plain::truth_tables();
+    gate_bytes::truth_tables();
+    gate_bytes::marked_and_or();
+    gate_bytes::marked_xor_mux();
     checking::small_examples();
     checking::lengths_and_counts();
     checking::kinds_and_pins();
