@@ -1,4 +1,4 @@
--- What holds of the gate rules for all bytes of their pins, from the laws of the crate `gates`.
+-- What holds of the gate rules, from the laws of the crate `gates`.
 use Rattle.gates.proofs.Laws
 use Rattle.gates.proofs.Composed
 use Rattle.claims.specs.Gates.{MuxComposed, GatesMonotone}

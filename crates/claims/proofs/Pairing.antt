@@ -118,10 +118,10 @@ module _ (s : List ℕ) (c : Checked s) (few : doubledSize (netsOf s) ≤ 8192) 
       record { powered-up = (rw e, rw e′); finished = rw e′ (r .finished); cycles = rw (e, e′) (r .cycles) }
 
 pub demand2 : Demand2
-demand2 s buf h =
-    let t = double-none s buf .0 h in
-    let e = double-accepted s buf h in
-    record { written = rw e; paired = rw e (pairs s (t .0) (t .1)) }
+demand2 s h few buf l =
+    let c = check-none s .0 h in
+    let e = double-accepted s buf (double-none s buf .1 (c, few, l)) in
+    record { written = rw e; paired = rw e (pairs s c few) }
 
 pub doubled-reads : DoubledReadsAll
 doubled-reads s h few =

@@ -14,7 +14,7 @@ use Rattle.netlist.proofs.Checked.{Checked, check-none}
 use Rattle.tracker.specs.Cycle.{Cycle, firstOf, firstFlow}
 use Rattle.tracker.specs.Calls.{done, Stepped, powerUpOf, asStep, stepRefusal, runRefusal}
 use Rattle.tracker.proofs.Cycles.{Related, agree-outputs, agree-cycle, agree-cycles, outputs-of-related, state-after-related}
-use Rattle.tracker.proofs.Calls.{step-none, run-none, powered-up}
+use Rattle.tracker.proofs.Calls.{step-none, run-none, starts-state, powered-up}
 use Rattle.doubling.specs.Doubled.{split}
 use Rattle.claims.specs.History.{Call, refusalOf, stepped, ran, callResult, history, cyclesIn, Finished, InSteps}
 use Rattle.claims.specs.Pairing.{Shows}
@@ -163,11 +163,13 @@ pub demand3 : Demand3
 demand3 s h cs ds m =
     let c = check-none s .0 h in
     record {
-      powered-up = λ a l. rw (powered-up s a c l);
+      powered-up = λ a l. (rw (powered-up s a c l), rw (powered-up s a c l) (starts-state c .size));
       calls = λ st st′ q. same-calls s q m;
       from-power-up = λ a b l k. same-calls s (powered-agree c a b l k) m;
-      doubled = λ buf g a b a′ b′ l k l′ k′ cs′ ds′ p q.
-          let x = demand2 s buf g .paired a a′ l l′ cs cs′ p in
-          let y = demand2 s buf g .paired b b′ k k′ ds ds′ q in
-          (x .finished, y .finished, pairs-square (same-shown s _) (x .cycles) (y .cycles) (same-cycles s (powered-agree c a b l k) m));
+      doubled = λ few buf g a b a′ b′ l k l′ k′ cs′ ds′ p q.
+          let d = demand2 s h few buf g in
+          let x = d .paired a a′ l l′ cs cs′ p in
+          let y = d .paired b b′ k k′ ds ds′ q in
+          let shown = pairs-square (same-shown s _) (x .cycles) (y .cycles) (same-cycles s (powered-agree c a b l k) m) in
+          (d .written, x .powered-up .1, y .powered-up .1, x .finished, y .finished, shown);
     }

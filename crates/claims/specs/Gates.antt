@@ -1,10 +1,10 @@
--- What holds of the gate rules for all bytes of their pins.
+-- What holds of the gate rules, whatever the bytes of their pins.
 use Prim.Native.Nat.{ℕ, _≤_}
 use mathlib.Core.Path.{_≡_}
 use Rattle.gates.specs.Rules.{notByte, andByte, orByte, muxByte, gateByte}
 use Rattle.gates.specs.Relations.{BelowByte}
 
--- a MUX has the byte of the NOT, two ANDs and OR that source document 001 composes it of; proved as `mux-composed`
+-- on bytes 0 to 3, a MUX has the byte of the NOT, two ANDs and OR that source document 001 composes it of; proved as `mux-composed`
 abbrev pub MuxComposed : Type 0
 MuxComposed = (a b c : ℕ) → a ≤ 3 → b ≤ 3 → c ≤ 3 → muxByte a b c ≡ orByte (andByte a (notByte c)) (andByte b c)
 

@@ -1,5 +1,5 @@
 -- Demand 2, second half: the doubled netlist shows the same values and marks at its paired outputs. And what doubling writes.
-use Prim.Native.Nat.{ℕ, _*_, _%_, _≤_, _<_}
+use Prim.Native.Nat.{ℕ, _+_, _*_, _%_, _≤_, _<_}
 use mathlib.Core.Path.{_≡_}
 use mathlib.Core.List.{List, map, Forall₂}
 use mathlib.Core.Option.{none}
@@ -41,9 +41,11 @@ pub record DoublingPairs (s buf : List ℕ) : Type 0 where
       → (cs cs′ : List Call) → Forall₂ (Again d) (accepted s (powerUpOf s a .state) cs) cs′
       → Paired s d a b cs cs′
 
--- where doubling draws none of 1 to 8, 15 and 16; proved as `demand2`
+-- for every accepted image whose doubled netlist fits the size limit, and every buffer of its exact length; proved as `demand2`
 abbrev pub Demand2 : Type 0
-Demand2 = (s buf : List ℕ) → doubleRefusal s buf ≡ none → DoublingPairs s buf
+Demand2 =
+    (s : List ℕ) → checkRefusal s ≡ none → doubledSize (netsOf s) ≤ 8192
+    → (buf : List ℕ) → length buf ≡ 8 + 7 * doubledSize (netsOf s) → DoublingPairs s buf
 
 -- every image that doubling writes passes checking, so 17 is never given; proved as `doubled-checks`
 abbrev pub DoubledChecks : Type 0

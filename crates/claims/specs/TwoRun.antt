@@ -1,15 +1,15 @@
 -- Demand 3: the two-run property, one claim about two whole lists of calls (noninterference in the literature).
-use Prim.Native.Nat.{ℕ, _+_, _*_, _<_}
+use Prim.Native.Nat.{ℕ, _+_, _*_, _≤_, _<_}
 use mathlib.Core.Path.{_≡_}
 use mathlib.Core.List.{List, [], _∷_, Forall₂}
 use mathlib.Core.Option.{none}
 use lib.ListN.{length, getD}
 use Rattle.gates.specs.Relations.{Agree}
-use Rattle.netlist.specs.Image.{sizesOf}
+use Rattle.netlist.specs.Image.{sizesOf, netsOf}
 use Rattle.netlist.specs.declared.answer.Refusal.{Refusal}
 use Rattle.netlist.specs.Check.{checkRefusal}
 use Rattle.tracker.specs.Calls.{Stepped, powerUpOf}
-use Rattle.doubling.specs.Doubled.{doubleRefusal, doubleOf}
+use Rattle.doubling.specs.Doubled.{doubledSize, doubleOf}
 use Rattle.claims.specs.History.{Call, step, run, lent, CallResult, callResult, history, accepted, cyclesIn, TurnedBack, Finished, AllFinished, InSteps}
 use Rattle.claims.specs.Pairing.{Again, shown}
 
@@ -53,16 +53,18 @@ pub record SameShown (d : List ℕ) (o o′ : Stepped) : Type 0 where
       (j : ℕ) → 2 * j + 1 < sizesOf d .outputs → getD (shown d o) (2 * j + 1) 0 ≡ 0
       → getD (shown d o) (2 * j) 0 ≡ getD (shown d o′) (2 * j) 0
 
--- from any two states that agree; from power-up, where the two lists' states held the bytes a and b before; and on the doubled image that
--- doubling writes into buf, from its own power-up of states that held a′ and b′
+-- from any two states that agree; from power-up, where the two lists' states held the bytes a and b before; and, where doubling doesn't draw 15,
+-- on the doubled image that it writes into buf, from its own power-up of states that held a′ and b′
 pub record TwoRun (s : List ℕ) (cs ds : List Call) : Type 0 where
-  pub powered-up : (a : List ℕ) → length a ≡ sizesOf s .registers → powerUpOf s a .refusal ≡ none
+  pub powered-up :
+      (a : List ℕ) → length a ≡ sizesOf s .registers
+      → (powerUpOf s a .refusal ≡ none) × (length (powerUpOf s a .state) ≡ sizesOf s .registers)
   pub calls : (st st′ : List ℕ) → Agree st st′ → SameCalls s st st′ cs ds
   pub from-power-up :
       (a b : List ℕ) → length a ≡ sizesOf s .registers → length b ≡ sizesOf s .registers
       → SameCalls s (powerUpOf s a .state) (powerUpOf s b .state) cs ds
   pub doubled :
-      (buf : List ℕ) → doubleRefusal s buf ≡ none
+      doubledSize (netsOf s) ≤ 8192 → (buf : List ℕ) → length buf ≡ 8 + 7 * doubledSize (netsOf s)
       → let d = doubleOf s buf .image in
       (a b a′ b′ : List ℕ) → length a ≡ sizesOf s .registers → length b ≡ sizesOf s .registers
       → length a′ ≡ sizesOf d .registers → length b′ ≡ sizesOf d .registers
@@ -71,7 +73,8 @@ pub record TwoRun (s : List ℕ) (cs ds : List Call) : Type 0 where
       → Forall₂ (Again d) (accepted s (powerUpOf s b .state) ds) ds′
       → let ms = history d (powerUpOf d a′ .state) cs′ in
       let ns = history d (powerUpOf d b′ .state) ds′ in
-      AllFinished ms × AllFinished ns × Forall₂ (SameShown d) (cyclesIn ms) (cyclesIn ns)
+      (doubleOf s buf .refusal ≡ none) × (powerUpOf d a′ .refusal ≡ none) × (powerUpOf d b′ .refusal ≡ none)
+      × AllFinished ms × AllFinished ns × Forall₂ (SameShown d) (cyclesIn ms) (cyclesIn ns)
 
 -- proved as `demand3`
 abbrev pub Demand3 : Type 0

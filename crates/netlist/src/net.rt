@@ -1,5 +1,4 @@
-// The tests of one net: refusals 4 to 7. Each condition is worked out without a branch on the kind, so that mixed kinds cost no
-// mispredicted branches.
+// The tests of one net: refusals 4 to 7. Each condition is written with flags, in the words of its definition.
 use crate::answer::Outcome;
 use crate::answer::refused;
 use crate::image::Net;
