@@ -1,7 +1,9 @@
 // The kinds of nets, and the byte of a gate from the bytes of its pins, read from one table.
+mod bytes;
 mod codes;
 mod kinds;
 
+pub use bytes::marked;
 pub use codes::gate_byte;
 pub use codes::table;
 pub use kinds::AND;

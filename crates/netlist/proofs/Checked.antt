@@ -62,7 +62,7 @@ by-kind n i (suc (suc (suc (suc (suc (suc (suc zero))))))) a b c t = is-mux (leb
 by-kind n i (suc (suc (suc (suc (suc (suc (suc (suc zero)))))))) a b c t = rw (zero-is c (t .no-c)) (is-out (leb-false i a (t .pin-a)) (ltb-false 1 b (t .policy)))
 by-kind n i (suc (suc (suc (suc (suc (suc (suc (suc (suc k))))))))) a b c t = absurd (omega arith)
 
-passes : (n i : ℕ) (x : Net) → netRefusal n i x ≡ none → Passes n i x
+pub passes : (n i : ℕ) (x : Net) → netRefusal n i x ≡ none → Passes n i x
 unfolding netRefusal
 passes n i x h =
     let t4 = simp accepted at h in
@@ -84,7 +84,7 @@ passes n i x h =
       no-c = t7 .1;
     })
 
-no-refusal : {n i : ℕ} {x : Net} → Passes n i x → netRefusal n i x ≡ none
+pub no-refusal : {n i : ℕ} {x : Net} → Passes n i x → netRefusal n i x ≡ none
 unfolding netRefusal
 no-refusal {n} {i} (is-const {a} h) = rw (le-ltb 1 a h)
 no-refusal {n} {i} is-input = refl

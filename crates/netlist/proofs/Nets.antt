@@ -1,11 +1,11 @@
 -- The nets of an image, one after the other: what a pass over them has before it at net i.
 use Prim.Native.Nat.{ℕ, suc, _+_, _-_, _<_}
-use mathlib.Core.Path.{_≡_}
+use mathlib.Core.Path.{_≡_, ap, _∙_}
 use mathlib.Core.List.{List, [], _∷_}
 use native.Mathlib.Numerals.{add-one}
 use native.Mathlib.Omega.{arith}
 use Rattle.netlist.specs.declared.image.Net.{Net}
-use Rattle.netlist.specs.Image.{netAt, netsFrom}
+use Rattle.netlist.specs.Image.{sizesOf, netAt, netsFrom, netsOf}
 
 -- the nets from net i on, of an image of n nets
 abbrev pub netsLeft : List ℕ → ℕ → ℕ → List Net
@@ -22,3 +22,8 @@ module _ (s : List ℕ) (n : ℕ) where
   pub nets-done : (i : ℕ) → n - i ≡ 0 → netsLeft s n i ≡ []
   unfolding netsFrom
   nets-done i e = rw e
+
+-- at net 0, all nets of the image
+pub nets-left : (s : List ℕ) (n : ℕ) → n ≡ sizesOf s .nets → netsLeft s n 0 ≡ netsOf s
+unfolding netsOf
+nets-left s n h = nets-all s n ∙ ap (λ n. netsFrom s n 0 n) h

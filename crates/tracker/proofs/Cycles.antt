@@ -61,16 +61,19 @@ module _ (R : ℕ → ℕ → Type 0) (rule : Rule) (kept : Kept R rule) where
   net-related (is-mux {a} {b} {c} p q r) h = gate-related 7 a b c h
   net-related (is-out {a} {b} p q) h = gate-related 8 a b 0 h
 
-  pub walk-related : {n i : ℕ} {xs : List Net} {w w′ : Walk} → AllPass n i xs → WalkRelated R w w′ → WalkRelated R (walk rule xs w) (walk rule xs w′)
-  unfolding walk past
-  walk-related nil h = h
-  walk-related (cons {x = x} p ps) h =
-      walk-related ps
-      (record {
+  pub past-related : {n i : ℕ} {x : Net} {w w′ : Walk} → Passes n i x → WalkRelated R w w′ → WalkRelated R (past rule x w) (past rule x w′)
+  unfolding past
+  past-related {x = x} p h =
+      record {
         bytes = pairs-append (h .bytes) (Forall₂·cons (net-related p h) Forall₂·nil);
         row = pairs-drop (cond (eqb (x .kind) 1) 1 0) (h .row);
         state = pairs-drop (cond (eqb (x .kind) 2) 1 0) (h .state);
-      })
+      }
+
+  pub walk-related : {n i : ℕ} {xs : List Net} {w w′ : Walk} → AllPass n i xs → WalkRelated R w w′ → WalkRelated R (walk rule xs w) (walk rule xs w′)
+  unfolding walk
+  walk-related nil h = h
+  walk-related (cons p ps) h = walk-related ps (past-related p h)
 
   pub bytes-related :
       {n i : ℕ} {xs : List Net} {row row′ st st′ : List ℕ} → AllPass n i xs → Forall₂ R row row′ → Forall₂ R st st′
@@ -185,7 +188,7 @@ plain-cycles ps =
     cycles-related {Q = λ v w. Unit {0}} (record { const = λ a h. record { plain = refl }; gate = gates-plain }) (λ i xs bs cs h. tt) ps
 
 -- CODES: a cycle's bytes are 0 to 3 where its row's and its state's are
-code-kept : Kept Code gateByte
+pub code-kept : Kept Code gateByte
 code-kept = record { const = λ a h. omega arith; gate = gates-code }
 
 pub codes-outputs : {bs : List ℕ} (i : ℕ) (xs : List Net) → Codes bs → Codes (outputsFrom i xs bs)

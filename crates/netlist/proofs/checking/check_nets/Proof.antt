@@ -12,10 +12,10 @@ use lib.Dec.{eqb}
 use Rattle.gates.specs.Kinds.{INPUT, REG, OUT}
 use Rattle.netlist.specs.declared.image.Sizes.{Sizes}
 use Rattle.netlist.specs.declared.image.Net.{Net}
-use Rattle.netlist.specs.Image.{sizesOf, netsFrom, netsOf, count}
+use Rattle.netlist.specs.Image.{sizesOf, netsOf, count}
 use Rattle.netlist.specs.declared.answer.Refusal.{Refusal}
 use Rattle.netlist.specs.Check.{refuse, refusalIn, _then_, netRefusal, netsRefusal, wrongCounts}
-use Rattle.netlist.proofs.Nets.{netsLeft, nets-all, nets-next, nets-done}
+use Rattle.netlist.proofs.Nets.{netsLeft, nets-next, nets-done, nets-left}
 use Rattle.netlist.proofs.checking.check_nets.Statement.{statement}
 use Rattle.netlist.proofs.checking.check_nets.Tie as tie
 
@@ -68,11 +68,6 @@ Inv-loop s z n inputs₀ registers₀ outputs₀ i₀ inputs registers outputs i
 abbrev μ-loop : tie.MeasureT-loop
 μ-loop s z n inputs₀ registers₀ outputs₀ i₀ inputs registers outputs i = n - i
 
--- the nets of the image are as many as its sizes say
-all-left : (s : List ℕ) (z : Sizes) → z ≡ sizesOf s → netsLeft s (z .nets) 0 ≡ netsOf s
-unfolding netsOf
-all-left s z h = nets-all s (z .nets) ∙ ap (λ (z : Sizes). netsFrom s (z .nets) 0 (z .nets)) h
-
 loop-holds : tie.Need-loop-holds Inv-loop μ-loop
 loop-holds c =
     let args = c .before .args in (
@@ -80,7 +75,7 @@ loop-holds c =
       omega arith,
       omega arith,
       omega arith,
-      rw (all-left (args .s .now) (args .z) (c .before .pre .0)) (begins (args .z .nets) (netsOf (args .s .now))),
+      rw (nets-left (args .s .now) (args .z .nets) (ap (λ (z : Sizes). z .nets) (c .before .pre .0))) (begins (args .z .nets) (netsOf (args .s .now))),
     )
 
 -- at the head of a turn, the net is the first of those that are left

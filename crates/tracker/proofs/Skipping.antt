@@ -1,0 +1,40 @@
+-- A pass for nets of one kind may start at any net below which there is none of that kind.
+use Prim.Native.Nat.{ℕ, zero, suc, _≤_}
+use native.Mathlib.Numerals.{add-one}
+use native.Mathlib.Omega.{arith}
+use mathlib.Core.Path.{_≡_, refl, sym, _∙_}
+use mathlib.Core.List.{List, _∷_}
+use mathlib.Core.Bool.{false}
+use lib.Dec.{eqb}
+use borrow.Author.Tests.{ne-eqb}
+use Rattle.gates.specs.Kinds.{REG, OUT}
+use Rattle.netlist.specs.declared.image.Net.{Net}
+use Rattle.netlist.specs.Image.{netAt}
+use Rattle.netlist.proofs.Nets.{netsLeft, nets-next}
+use Rattle.tracker.specs.Cycle.{verdictFrom, outputsFrom, registers}
+use Rattle.tracker.specs.Passes.{NoneBelow}
+
+-- a function of the nets from some net on, that passes over every net of another kind than k
+abbrev Passing : {A : Type 0} (k : ℕ) → (ℕ → List Net → A) → Type 0
+Passing k f = (i : ℕ) (x : Net) (xs : List Net) → eqb (x .kind) k ≡ false → f i (x ∷ xs) ≡ f (suc i) xs
+
+module _ {A : Type 0} {k : ℕ} (f : ℕ → List Net → A) (passing : Passing k f) (s : List ℕ) (n : ℕ) where
+  skipped : (from : ℕ) → from ≤ n → NoneBelow k s from → f 0 (netsLeft s n 0) ≡ f from (netsLeft s n from)
+  unfolding netAt
+  skipped zero h none = refl
+  skipped (suc i) h none =
+      skipped i (omega arith) (λ j l. none j (omega arith))
+      ∙ rw (nets-next s n i (omega arith), passing i (netAt s n i) _ (ne-eqb _ _ (none i (omega arith))), add-one)
+
+module _ (s : List ℕ) (n from : ℕ) (h : from ≤ n) where
+  pub verdict-from : (bs : List ℕ) → NoneBelow OUT s from → verdictFrom 0 (netsLeft s n 0) bs ≡ verdictFrom from (netsLeft s n from) bs
+  unfolding verdictFrom
+  verdict-from bs none = skipped (λ i xs. verdictFrom i xs bs) (λ i x xs e. rw e) s n from h none
+
+  pub outputs-from : (bs : List ℕ) → NoneBelow OUT s from → outputsFrom 0 (netsLeft s n 0) bs ≡ outputsFrom from (netsLeft s n from) bs
+  unfolding outputsFrom
+  outputs-from bs none = skipped (λ i xs. outputsFrom i xs bs) (λ i x xs e. rw e) s n from h none
+
+  pub registers-from : (f : Net → ℕ) → NoneBelow REG s from → registers f (netsLeft s n 0) ≡ registers f (netsLeft s n from)
+  unfolding registers
+  registers-from f none = skipped (λ i xs. registers f xs) (λ i x xs e. rw e) s n from h none

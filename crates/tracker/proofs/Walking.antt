@@ -1,0 +1,105 @@
+-- A cycle's walk that code has taken as far as net i: what is left of it gives the bytes of all nets.
+use Prim.Native.Nat.{ℕ, suc, _+_, _≤_, _<_}
+use native.Mathlib.Numerals.{add-one}
+use native.Mathlib.Omega.{arith}
+use mathlib.Core.Path.{_≡_, refl, sym, ap, _∙_}
+use mathlib.Core.List.{List, [], _∷_, _++_, Forall₂·nil}
+use mathlib.Core.Bool.{cond}
+use lib.Dec.{eqb, lit≤}
+use lib.ListN.{length, getD, take, drop, set, length-set}
+use lib.Seq.{getD-take, getD-set-other, take-suc-set, take-all, drop-drop}
+use Rattle.gates.specs.Kinds.{INPUT, REG}
+use Rattle.gates.specs.Rules.{gateByte}
+use Rattle.gates.proofs.Laws.{Code}
+use Rattle.netlist.specs.declared.image.Net.{Net}
+use Rattle.netlist.specs.Image.{sizesOf, kindAt, netAt, netsOf, count}
+use Rattle.netlist.proofs.Pairs.{pairs-getD}
+use Rattle.netlist.proofs.Nets.{netsLeft, nets-next, nets-done, nets-left}
+use Rattle.netlist.proofs.Checked.{Passes, AllPass, cons, no-refusal}
+use Rattle.tracker.specs.Cycle.{netByte, past, walk, bytesOf}
+use Rattle.tracker.specs.Passes.{walkAt, Readable}
+use Rattle.tracker.proofs.Cycles.{WalkRelated, past-related, code-kept}
+use Rattle.tracker.proofs.Calls.{Ready}
+
+pub record Walked (s : List ℕ) (n : ℕ) (row state nets : List ℕ) (i inputs registers : ℕ) : Type 0 where
+  pub upto : i ≤ n
+  pub size : length nets ≡ n
+  pub all : bytesOf gateByte (netsOf s) row state ≡ walk gateByte (netsLeft s n i) (walkAt row state nets i inputs registers) .bytes
+  pub passes : AllPass n i (netsLeft s n i)
+  pub codes : WalkRelated Code (walkAt row state nets i inputs registers) (walkAt row state nets i inputs registers)
+  pub of-inputs : inputs + count INPUT (netsLeft s n i) ≡ length row
+  pub of-registers : registers + count REG (netsLeft s n i) ≡ length state
+  pub second : i ≤ 1 → getD nets 1 0 ≡ 0
+
+-- at net 0
+pub walk-begins : {s : List ℕ} {n : ℕ} {row state nets : List ℕ} → Ready s state (sizesOf s .inputs) row → n ≡ sizesOf s .nets
+    → length nets ≡ n → getD nets 1 0 ≡ 0 → Walked s n row state nets 0 0 0
+unfolding bytesOf
+walk-begins {s} {n} r h size second =
+    let left = nets-left s n h in
+    record {
+      upto = omega arith;
+      size = size;
+      all = rw left;
+      passes = rw (left, h) (r .image .nets);
+      codes = record { bytes = Forall₂·nil; row = r .codes; state = r .state .codes };
+      of-inputs = rw left (omega (arith, r .image .inputs, r .size));
+      of-registers = rw left (omega (arith, r .image .registers, r .state .size));
+      second = λ l. second;
+    }
+
+first : {n i : ℕ} {x : Net} {xs : List Net} → AllPass n i (x ∷ xs) → Passes n i x
+first (cons p ps) = p
+
+later : {n i : ℕ} {x : Net} {xs : List Net} → AllPass n i (x ∷ xs) → AllPass n (suc i) xs
+later (cons p ps) = ps
+
+module _ {s : List ℕ} {n : ℕ} {row state nets : List ℕ} {i inputs registers : ℕ} (w : Walked s n row state nets i inputs registers) where
+  -- with net i before it
+  module _ (below : i < n) where
+    this-net : AllPass n i (netAt s n i ∷ netsLeft s n (suc i))
+    this-net = rw (nets-next s n i below, add-one i) at (w .passes)
+
+    this-count : (k : ℕ) → count k (netsLeft s n i) ≡ cond (eqb (kindAt s i) k) 1 0 + count k (netsLeft s n (suc i))
+    unfolding count netAt
+    this-count k = rw (nets-next s n i below, add-one i)
+
+    pub walk-readable : Readable s n row state nets i inputs registers
+    walk-readable =
+        record {
+          passes = no-refusal (first this-net);
+          input = λ e. let m = rw (this-count INPUT, e) at (w .of-inputs) in omega arith;
+          register = λ e. let m = rw (this-count REG, e) at (w .of-registers) in omega arith;
+          codes = λ j h. let m = rw (getD-take i nets j 0 h) at (pairs-getD j 0 (lit≤ tt) (w .codes .bytes)) in omega arith;
+          second = w .second;
+        }
+
+    -- one net further, with its byte in place
+    module _ (b p q : ℕ)
+        (byte : b ≡ netByte gateByte (netAt s n i) (walkAt row state nets i inputs registers))
+        (in-row : p ≡ inputs + cond (eqb (kindAt s i) INPUT) 1 0)
+        (in-state : q ≡ registers + cond (eqb (kindAt s i) REG) 1 0) where
+      further : past gateByte (netAt s n i) (walkAt row state nets i inputs registers) ≡ walkAt row state (set nets i b) (suc i) p q
+      unfolding past netAt
+      further =
+          let l : i < length nets = omega (arith, w .size) in
+          rw (take-suc-set nets i b l, byte, in-row, in-state, drop-drop _ inputs row, drop-drop _ registers state)
+
+      pub walk-goes-on : Walked s n row state (set nets i b) (suc i) p q
+      unfolding walk
+      walk-goes-on =
+          record {
+            upto = below;
+            size = length-set nets i b ∙ w .size;
+            all = w .all ∙ rw (nets-next s n i below, add-one i, further);
+            passes = later this-net;
+            codes = rw further at (past-related Code gateByte code-kept (first this-net) (w .codes));
+            of-inputs = omega (arith, this-count INPUT, w .of-inputs);
+            of-registers = omega (arith, this-count REG, w .of-registers);
+            second = λ h. getD-set-other nets i 1 b 0 (λ e. omega arith) ∙ w .second (omega arith);
+          }
+
+  -- with none
+  pub walk-ends : n ≤ i → nets ≡ bytesOf gateByte (netsOf s) row state
+  unfolding walk
+  walk-ends h = sym (w .all ∙ rw (nets-done s n i (omega arith), take-all i nets (omega (arith, w .size))))

@@ -1,0 +1,49 @@
+// The verdict of a cycle.
+use crate::answer::Verdict;
+use gates::OUT;
+use gates::marked;
+use netlist::kind_at;
+use netlist::operand_at;
+ghost use mathlib.Core.Path.{_≡_};
+ghost use mathlib.Core.Option.{none};
+ghost use mathlib.Core.Bool.{_&&_};
+ghost use Prim.Native.Nat.{_+_, _*_, _<_, _≤_};
+ghost use lib.Dec.{eqb};
+ghost use lib.ListN.{length, getD};
+ghost use Rattle.gates.specs.Kinds.{OUT};
+ghost use Rattle.gates.specs.Rules.{mark};
+ghost use Rattle.netlist.specs.Image.{sizesOf, kindAt, operandAt, netsOf};
+ghost use Rattle.netlist.specs.Check.{checkRefusal};
+ghost use Rattle.tracker.specs.Answers.{verdictIn};
+ghost use Rattle.tracker.specs.Cycle.{verdictFrom};
+ghost use Rattle.tracker.specs.Passes.{NoneBelow};
+
+// Whether net i is a protected OUT with mark 1.
+fn flows(image: &[u8], n: usize, i: usize, nets: &[u8]) -> bool
+    requires { ⌜ (i < n) × (length (now image) ≡ 8 + 7 * n) × (length (now nets) ≡ n) ⌝ }
+    ensures { λ r. ⌜ r ≡ (eqb (kindAt (now (image .entry)) i) OUT && eqb (operandAt (now (image .entry)) n i 1) 1 && mark (getD (now (nets .entry)) i 0)) ⌝ }
+{
+    if kind_at(image, i) != OUT {
+        return false;
+    }
+    (operand_at(image, n, i, 1) == 1) & marked(nets[i])
+}
+
+// A flow at the lowest-numbered protected OUT with mark 1, or clear. No OUT stands below net `from`.
+pub fn verdict_of(image: &[u8], n: usize, from: usize, nets: &[u8]) -> Verdict
+    requires { ⌜ checkRefusal (now image) ≡ none ⌝ }
+    requires { ⌜ (n ≡ sizesOf (now image) .nets) × (length (now nets) ≡ n) ⌝ }
+    requires { ⌜ (from ≤ n) × NoneBelow OUT (now image) from ⌝ }
+    ensures { λ r. ⌜ verdictIn r ≡ verdictFrom 0 (netsOf (now (image .entry))) (now (nets .entry)) ⌝ }
+{
+    let mut i = from;
+    loop {
+        if n <= i {
+            break Verdict::Clear;
+        }
+        if flows(image, n, i, nets) {
+            break Verdict::Flow(i);
+        }
+        i += 1;
+    }
+}
