@@ -7,12 +7,13 @@ use mathlib.Core.List.{List, _∷_}
 use mathlib.Core.Bool.{false}
 use lib.Dec.{eqb}
 use borrow.Author.Tests.{ne-eqb}
-use Rattle.gates.specs.Kinds.{REG, OUT}
+use Rattle.gates.specs.Kinds.{OUT}
 use Rattle.netlist.specs.declared.image.Net.{Net}
 use Rattle.netlist.specs.Image.{netAt}
 use Rattle.netlist.proofs.Nets.{netsLeft, nets-next}
-use Rattle.tracker.specs.Cycle.{verdictFrom, outputsFrom, registers}
+use Rattle.tracker.specs.Cycle.{verdictFrom}
 use Rattle.tracker.specs.Passes.{NoneBelow}
+use Rattle.tracker.proofs.Filling.{Selection}
 
 -- a function of the nets from some net on, that passes over every net of another kind than k
 abbrev Passing : {A : Type 0} (k : ℕ) → (ℕ → List Net → A) → Type 0
@@ -31,10 +32,6 @@ module _ (s : List ℕ) (n from : ℕ) (h : from ≤ n) where
   unfolding verdictFrom
   verdict-from bs none = skipped (λ i xs. verdictFrom i xs bs) (λ i x xs e. rw e) s n from h none
 
-  pub outputs-from : (bs : List ℕ) → NoneBelow OUT s from → outputsFrom 0 (netsLeft s n 0) bs ≡ outputsFrom from (netsLeft s n from) bs
-  unfolding outputsFrom
-  outputs-from bs none = skipped (λ i xs. outputsFrom i xs bs) (λ i x xs e. rw e) s n from h none
-
-  pub registers-from : (f : Net → ℕ) → NoneBelow REG s from → registers f (netsLeft s n 0) ≡ registers f (netsLeft s n from)
-  unfolding registers
-  registers-from f none = skipped (λ i xs. registers f xs) (λ i x xs e. rw e) s n from h none
+  pub selection-from : {k : ℕ} {list : ℕ → List Net → List ℕ} {byte : ℕ → Net → ℕ} → Selection k list byte → NoneBelow k s from
+      → list 0 (netsLeft s n 0) ≡ list from (netsLeft s n from)
+  selection-from {list = list} selection none = skipped list (λ i x xs e. rw (selection .next i x xs, e)) s n from h none
