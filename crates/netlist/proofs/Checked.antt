@@ -5,15 +5,17 @@ use mathlib.Core.Path.{_≡_, refl, ap}
 use mathlib.Core.List.{List, [], _∷_}
 use mathlib.Core.Option.{none}
 use mathlib.Core.Bool.{false, _&&_, not}
+use native.Mathlib.Numerals.{add-one}
 use native.Mathlib.Omega.{arith}
 use lib.Dec.{eqb, leb, ltb}
 use lib.ListN.{length}
 use borrow.Author.Tests.{ltb-false, leb-false, le-ltb, lt-leb}
 use Rattle.netlist.specs.declared.image.Net.{Net}
-use Rattle.netlist.specs.Image.{sizesOf, net, netsFrom, netsOf, count}
+use Rattle.netlist.specs.Image.{sizesOf, net, netAt, netsFrom, netsOf, count}
 use Rattle.gates.specs.Kinds.{CONST, INPUT, REG, OUT}
 use Rattle.netlist.specs.Operands.{listsA, listsB, listsC, pinA, pinB, pinC}
 use Rattle.netlist.specs.Check.{netRefusal, netsRefusal, checkRefusal}
+use Rattle.netlist.proofs.Nets.{netsLeft, nets-next, nets-left}
 use Rattle.netlist.proofs.Refusals.{then-none, not-other, accepted}
 
 -- net x passes as net i of n
@@ -149,3 +151,18 @@ nets-length s n i (suc k) = ap suc (nets-length s n (suc i) k)
 pub length-nets : (s : List ℕ) → length (netsOf s) ≡ sizesOf s .nets
 unfolding netsOf
 length-nets s = nets-length s _ 0 _
+
+-- each net of an accepted image passes
+module _ {s : List ℕ} {n : ℕ} (c : Checked s) (e : n ≡ sizesOf s .nets) where
+  pass-from : (i : ℕ) → i ≤ n → AllPass n i (netsLeft s n i)
+  pass-from zero h = rw (nets-left s n e, e) (c .nets)
+  pass-from (suc i) h = rest (rw (nets-next s n i h, add-one i) at (pass-from i (omega arith)))
+    where
+      rest : {x : Net} {xs : List Net} → AllPass n i (x ∷ xs) → AllPass n (suc i) xs
+      rest (cons p ps) = ps
+
+  pub net-passes : (i : ℕ) → i < n → Passes n i (netAt s n i)
+  net-passes i h = this (rw (nets-next s n i h) at (pass-from i (omega arith)))
+    where
+      this : {x : Net} {xs : List Net} → AllPass n i (x ∷ xs) → Passes n i x
+      this (cons p ps) = p

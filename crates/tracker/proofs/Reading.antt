@@ -13,8 +13,8 @@ use borrow.Author.Tests.{eq-eqb, ne-eqb}
 use Rattle.gates.specs.Kinds.{CONST, INPUT, REG, NOT}
 use Rattle.gates.specs.Rules.{gateByte}
 use Rattle.netlist.specs.declared.image.Net.{Net}
-use Rattle.netlist.specs.Image.{net, kindAt, operandAt, netAt}
-use Rattle.netlist.proofs.Checked.{Passes, is-const, is-input, is-reg, is-not, is-and, is-or, is-xor, is-mux, is-out, passes}
+use Rattle.netlist.specs.Image.{sizesOf, net, kindAt, operandAt, netAt}
+use Rattle.netlist.proofs.Checked.{Passes, is-const, is-input, is-reg, is-not, is-and, is-or, is-xor, is-mux, is-out, passes, Checked, net-passes}
 use Rattle.tracker.specs.Cycle.{pinByte, netByte}
 use Rattle.tracker.specs.Passes.{walkAt, Readable}
 
@@ -58,6 +58,22 @@ const-value (is-or p q) h f g = absurd (omega arith)
 const-value (is-xor p q) h f g = absurd (omega arith)
 const-value (is-mux p q r) h f g = absurd (omega arith)
 const-value (is-out p q) h f g = absurd (omega arith)
+
+-- the pin of a REG is below N
+register-pin : {n i : ℕ} {x : Net} → Passes n i x → x .kind ≡ REG → x .a < n
+register-pin (is-const p) h = absurd (omega arith)
+register-pin is-input h = absurd (omega arith)
+register-pin (is-reg p q) h = p
+register-pin (is-not p) h = absurd (omega arith)
+register-pin (is-and p q) h = absurd (omega arith)
+register-pin (is-or p q) h = absurd (omega arith)
+register-pin (is-xor p q) h = absurd (omega arith)
+register-pin (is-mux p q r) h = absurd (omega arith)
+register-pin (is-out p q) h = absurd (omega arith)
+
+pub pin-below : {s : List ℕ} {n : ℕ} → Checked s → n ≡ sizesOf s .nets → (i : ℕ) → i < n → kindAt s i ≡ REG → operandAt s n i 0 < n
+unfolding netAt
+pin-below c e i h k = register-pin (net-passes c e i h) k
 
 -- with all that is asked of the bytes, for net i of n
 module _ {s : List ℕ} {n : ℕ} {row state nets : List ℕ} {i inputs registers : ℕ}

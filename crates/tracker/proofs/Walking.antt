@@ -15,17 +15,18 @@ use Rattle.netlist.specs.declared.image.Net.{Net}
 use Rattle.netlist.specs.Image.{sizesOf, kindAt, netAt, netsOf, count}
 use Rattle.netlist.proofs.Pairs.{pairs-getD}
 use Rattle.netlist.proofs.Nets.{netsLeft, nets-next, nets-done, nets-left}
-use Rattle.netlist.proofs.Checked.{Passes, AllPass, cons, no-refusal}
+use Rattle.netlist.proofs.Checked.{Passes, Checked, no-refusal, net-passes}
 use Rattle.tracker.specs.Cycle.{netByte, past, walk, bytesOf}
 use Rattle.tracker.specs.Passes.{walkAt, Readable}
 use Rattle.tracker.proofs.Cycles.{WalkRelated, past-related, code-kept}
 use Rattle.tracker.proofs.Calls.{Ready}
 
 pub record Walked (s : List ℕ) (n : ℕ) (row state nets : List ℕ) (i inputs registers : ℕ) : Type 0 where
+  pub image : Checked s
+  pub count-is : n ≡ sizesOf s .nets
   pub upto : i ≤ n
   pub size : length nets ≡ n
   pub all : bytesOf gateByte (netsOf s) row state ≡ walk gateByte (netsLeft s n i) (walkAt row state nets i inputs registers) .bytes
-  pub passes : AllPass n i (netsLeft s n i)
   pub codes : WalkRelated Code (walkAt row state nets i inputs registers) (walkAt row state nets i inputs registers)
   pub of-inputs : inputs + count INPUT (netsLeft s n i) ≡ length row
   pub of-registers : registers + count REG (netsLeft s n i) ≡ length state
@@ -38,27 +39,22 @@ unfolding bytesOf
 walk-begins {s} {n} r h size second =
     let left = nets-left s n h in
     record {
+      image = r .image;
+      count-is = h;
       upto = omega arith;
       size = size;
       all = rw left;
-      passes = rw (left, h) (r .image .nets);
       codes = record { bytes = Forall₂·nil; row = r .codes; state = r .state .codes };
       of-inputs = rw left (omega (arith, r .image .inputs, r .size));
       of-registers = rw left (omega (arith, r .image .registers, r .state .size));
       second = λ l. second;
     }
 
-first : {n i : ℕ} {x : Net} {xs : List Net} → AllPass n i (x ∷ xs) → Passes n i x
-first (cons p ps) = p
-
-later : {n i : ℕ} {x : Net} {xs : List Net} → AllPass n i (x ∷ xs) → AllPass n (suc i) xs
-later (cons p ps) = ps
-
 module _ {s : List ℕ} {n : ℕ} {row state nets : List ℕ} {i inputs registers : ℕ} (w : Walked s n row state nets i inputs registers) where
   -- with net i before it
   module _ (below : i < n) where
-    this-net : AllPass n i (netAt s n i ∷ netsLeft s n (suc i))
-    this-net = rw (nets-next s n i below, add-one i) at (w .passes)
+    this-passes : Passes n i (netAt s n i)
+    this-passes = net-passes (w .image) (w .count-is) i below
 
     this-count : (k : ℕ) → count k (netsLeft s n i) ≡ cond (eqb (kindAt s i) k) 1 0 + count k (netsLeft s n (suc i))
     unfolding count netAt
@@ -67,7 +63,7 @@ module _ {s : List ℕ} {n : ℕ} {row state nets : List ℕ} {i inputs register
     pub walk-readable : Readable s n row state nets i inputs registers
     walk-readable =
         record {
-          passes = no-refusal (first this-net);
+          passes = no-refusal this-passes;
           input = λ e. let m = rw (this-count INPUT, e) at (w .of-inputs) in omega arith;
           register = λ e. let m = rw (this-count REG, e) at (w .of-registers) in omega arith;
           codes = λ j h. let m = rw (getD-take i nets j 0 h) at (pairs-getD j 0 (lit≤ tt) (w .codes .bytes)) in omega arith;
@@ -89,11 +85,12 @@ module _ {s : List ℕ} {n : ℕ} {row state nets : List ℕ} {i inputs register
       unfolding walk
       walk-goes-on =
           record {
+            image = w .image;
+            count-is = w .count-is;
             upto = below;
             size = length-set nets i b ∙ w .size;
             all = w .all ∙ rw (nets-next s n i below, add-one i, further);
-            passes = later this-net;
-            codes = rw further at (past-related Code gateByte code-kept (first this-net) (w .codes));
+            codes = rw further at (past-related Code gateByte code-kept this-passes (w .codes));
             of-inputs = omega (arith, this-count INPUT, w .of-inputs);
             of-registers = omega (arith, this-count REG, w .of-registers);
             second = λ h. getD-set-other nets i 1 b 0 (λ e. omega arith) ∙ w .second (omega arith);

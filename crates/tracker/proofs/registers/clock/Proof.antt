@@ -1,59 +1,127 @@
+-- `tracker::registers::clock` meets its contract. At net i, the new bytes of the registers below it stand in the state, and those of the others are left.
+use Prim.Native.Nat.{ℕ, _+_, _-_, _≤_, _<_}
+use native.Mathlib.Omega.{arith}
+use mathlib.Core.Logic.{⊎-elim}
+use mathlib.Core.Path.{_≡_, sym, _∙_}
+use mathlib.Core.List.{List, _∷_}
+use lib.ListN.{length, getD}
+use borrow.Author.Needs.{needs}
+use Rattle.gates.specs.Kinds.{REG}
+use Rattle.netlist.specs.declared.image.Net.{Net}
+use Rattle.netlist.specs.Image.{kindAt, operandAt, netAt, netsOf}
+use Rattle.netlist.proofs.Nets.{netsLeft, nets-left}
+use Rattle.netlist.proofs.Checked.{Checked, check-none}
+use Rattle.tracker.specs.Cycle.{pinByte, registers, clocked}
+use Rattle.tracker.proofs.Cycles.{registers-length}
+use Rattle.tracker.proofs.Reading.{pin-below}
+use Rattle.tracker.proofs.Filling.{Filled, fill-begins, fill-goes-on, fill-room, fill-length, registers-selected, selects, passes-over, selected}
+use Rattle.tracker.proofs.Skipping.{selection-from}
 use Rattle.tracker.proofs.registers.clock.Statement.{statement}
 use Rattle.tracker.proofs.registers.clock.Tie as tie
-use Rattle.tracker.proofs.registers.clock.Reads as reads
-use Rattle.tracker.proofs.registers.clock.Lts as lts
-use Rattle.netlist.proofs.kind_at.Reads as kind-at-reads
-use Rattle.netlist.proofs.operand_at.Reads as operand-at-reads
+
+-- the byte that a register takes
+abbrev taken : List ℕ → Net → ℕ
+taken bs x = pinByte bs (x .a)
 
 abbrev Inv-loop : tie.InvT-loop
-Inv-loop image n from nets state₀ j₀ i₀ state j i = ?
+Inv-loop image n from nets state₀ j₀ i₀ state j i =
+    (i ≤ n) × Filled (registers (taken nets) (netsOf image)) state j (registers (taken nets) (netsLeft image n i))
 
 abbrev μ-loop : tie.MeasureT-loop
-μ-loop image n from nets state₀ j₀ i₀ state j i = ?
+μ-loop image n from nets state₀ j₀ i₀ state j i = n - i
 
--- src/registers.rt:52:5
+checked : (c : tie.Start Inv-loop μ-loop) → Checked (c .args .image .now)
+checked c = check-none _ .0 (c .pre .0)
+
+-- as long as the state that was lent
+whole-length : (c : tie.Start Inv-loop μ-loop)
+    → length (registers (taken (c .args .nets .now)) (netsOf (c .args .image .now))) ≡ length (c .args .state .now)
+whole-length c = registers-length _ _ ∙ sym (checked c .registers) ∙ sym (c .pre .1 .0 .2)
+
 loop-holds : tie.Need-loop-holds Inv-loop μ-loop
-loop-holds c = ?
+loop-holds c =
+    let start = c .before .before .before in
+    let size = start .pre .1 .0 in
+    let from = start .pre .1 .1 in
+    let s = start .args .image .now in
+    let all = nets-left s (start .args .n) (size .0) in
+    (from .0, fill-begins
+      (rw (← all) (selection-from s _ _ (from .0) (registers-selected (taken (start .args .nets .now))) (from .1)))
+      (whole-length start))
 
--- src/registers.rt:53:12
 kind-at-requires : tie.Need-kind-at-requires Inv-loop μ-loop
-kind-at-requires c κs = ?
+kind-at-requires c κs =
+    let start = c .before .before .before .before .before in
+    let h = c .loop-test .taken in
+    omega (arith, checked start .exact, start .pre .1 .0 .0)
 
--- src/registers.rt:54:17
+is-register : (c : tie.Then1 Inv-loop μ-loop)
+    → let at = c .before .before .before in
+    kindAt (at .before .before .before .before .args .image .now) (at .loop .i) ≡ REG
+is-register c = sym (c .before .kind-at .ensures) ∙ c .if1 .taken
+
+-- a register: its byte is the next to write
+this-register : (c : tie.Then1 Inv-loop μ-loop)
+    → let at = c .before .before .before in
+    let args = at .before .before .before .before .args in
+    let s = args .image .now in
+    let n = args .n in
+    let bs = args .nets .now in
+    let i = at .loop .i in
+    Filled (registers (taken bs) (netsOf s)) (at .loop .state) (at .loop .j)
+    (getD bs (operandAt s n i 0) 0 ∷ registers (taken bs) (netsLeft s n (i + 1)))
+unfolding pinByte netAt
+this-register c =
+    let at = c .before .before .before in
+    let args = at .before .before .before .before .args in
+    selects (registers-selected (taken (args .nets .now))) (args .image .now) (args .n) (at .loop .i) (at .loop .inv .1) (c .before .before .loop-test .taken)
+    (is-register c)
+
 operand-at-requires : tie.Need-operand-at-requires Inv-loop μ-loop
-operand-at-requires c κs = ?
+operand-at-requires c κs =
+    let turn = c .before .before in
+    let start = turn .before .before .before .before .before in
+    (turn .loop-test .taken, omega arith, rw (start .pre .1 .0 .0) (checked start .exact))
 
--- src/registers.rt:55:24
 shared-slice-read-state : tie.Need-shared-slice-read-state Inv-loop μ-loop
-shared-slice-read-state c = ?
+shared-slice-read-state c =
+    let read = c .before in
+    let turn = read .before .before .before in
+    let start = turn .before .before .before .before .before in
+    let size = start .pre .1 .0 in
+    rw (read .operand-at .ensures .0, size .1) (pin-below (checked start) (size .0) _ (turn .loop-test .taken) (is-register (read .before)))
 
--- src/registers.rt:55:13
 slice-write-state : tie.Need-slice-write-state Inv-loop μ-loop
-slice-write-state c = ?
+slice-write-state c = fill-room (this-register (c .before .before))
 
--- src/registers.rt:56:13
 add-j : tie.Need-add-j Inv-loop μ-loop
-add-j c = ?
+add-j c =
+    let then = c .before .before in
+    let this = this-register then in
+    omega (arith, fill-room this, fill-length this, whole-length (then .before .before .before .before .before .before .before))
 
--- src/registers.rt:58:9
-add-i : tie.Need-add-i Inv-loop μ-loop
-add-i c = ?
-
--- src/registers.rt:52:5
-loop-less : tie.Need-loop-less Inv-loop μ-loop
-loop-less c = ?
-
--- src/registers.rt:52:5
 loop-again : tie.Need-loop-again Inv-loop μ-loop
-loop-again c = ?
+loop-again c =
+    let turn = c .before .before in
+    let at = turn .before in
+    let args = at .before .before .before .before .args in
+    let s = args .image .now in
+    (omega (arith, turn .loop-test .taken), ⊎-elim
+      (λ w. rw (w .3, w .4, w .1 .ensures .0) (fill-goes-on (this-register (record { before = c .before; if1 = w .0 }))))
+      (λ w.
+        let other : kindAt s (at .loop .i) ≡ REG → ⊥ = λ e. w .0 .left (c .before .kind-at .ensures ∙ e) in
+        rw (w .1, w .2) (passes-over (registers-selected (taken (args .nets .now))) s (args .n) (at .loop .i) (at .loop .inv .1) (turn .loop-test .taken) other))
+      (c .if1 .came))
 
--- src/registers.rt:44:1
-same-length : tie.Need-same-length Inv-loop μ-loop
-same-length c = ?
-
--- src/registers.rt:44:1
 returns : tie.Need-returns Inv-loop μ-loop
-returns c = ?
+unfolding clocked
+returns c =
+    let at = c .before in
+    let args = at .before .before .before .before .args in
+    selected (registers-selected (taken (args .nets .now))) (args .image .now) (args .n) (at .loop .i) (at .loop .inv .1) (c .loop-test .left)
+
+same-length : tie.Need-same-length Inv-loop μ-loop
+same-length c = let at = c .before in fill-length (at .loop .inv .1) ∙ whole-length (at .before .before .before .before)
 
 pub clock-spec : {M : Type 1} → statement M
 clock-spec =
@@ -67,8 +135,8 @@ clock-spec =
     shared-slice-read-state
     slice-write-state
     add-j
-    add-i
-    loop-less
+    (λ c. search needs)
+    (λ c. search needs)
     loop-again
     same-length
     returns)

@@ -1,15 +1,17 @@
+-- `tracker::registers::start_byte` meets its contract.
+use borrow.Author.Needs.{needs}
+use borrow.Author.Tests.{eq-eqb, ne-eqb}
+use Rattle.tracker.specs.Calls.{start}
 use Rattle.tracker.proofs.registers.start_byte.Statement.{statement}
 use Rattle.tracker.proofs.registers.start_byte.Tie as tie
-use Rattle.tracker.proofs.registers.start_byte.Reads as reads
-use Rattle.tracker.proofs.registers.start_byte.Lts as lts
 
--- src/registers.rt:21:9
 returns : tie.Need-returns
-returns c = ?
+unfolding start
+returns c = rw (eq-eqb _ 1 (c .if1 .taken))
 
--- src/registers.rt:17:1
 returns-2 : tie.Need-returns-2
-returns-2 c = ?
+unfolding start
+returns-2 c = rw (ne-eqb _ 1 (c .if1 .left))
 
 pub start-byte-spec : {M : Type 1} → statement M
 start-byte-spec = tie.close (tie.spec returns returns-2)
