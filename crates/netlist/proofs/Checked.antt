@@ -4,7 +4,7 @@ use mathlib.Core.Logic.{_↔_}
 use mathlib.Core.Path.{_≡_, refl, ap}
 use mathlib.Core.List.{List, [], _∷_}
 use mathlib.Core.Option.{none}
-use mathlib.Core.Bool.{false, _&&_, not}
+use mathlib.Core.Bool.{Bool, true, false, _&&_, not, cond}
 use native.Mathlib.Numerals.{add-one}
 use native.Mathlib.Omega.{arith}
 use lib.Dec.{eqb, leb, ltb}
@@ -166,3 +166,16 @@ module _ {s : List ℕ} {n : ℕ} (c : Checked s) (e : n ≡ sizesOf s .nets) wh
     where
       this : {x : Net} {xs : List Net} → AllPass n i (x ∷ xs) → Passes n i x
       this (cons p ps) = p
+
+-- there are at most 8,192 nets of a kind
+count-most : (k : ℕ) (xs : List Net) → count k xs ≤ length xs
+unfolding count
+count-most k [] = omega arith
+count-most k (x ∷ xs) = one (eqb (x .kind) k) (count-most k xs)
+  where
+    one : (b : Bool) {m n : ℕ} → m ≤ n → cond b 1 0 + m ≤ suc n
+    one true h = omega arith
+    one false h = omega arith
+
+pub few-of : {s : List ℕ} → Checked s → (k : ℕ) → count k (netsOf s) ≤ 8192
+few-of {s} c k = omega (arith, count-most k (netsOf s), length-nets s, c .few-nets)

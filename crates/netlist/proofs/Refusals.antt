@@ -16,6 +16,10 @@ pub then-none : (p q : Option Refusal) → (p then q ≡ none) ↔ ((p ≡ none)
 then-none none q = (λ h. (refl, h), λ h. h .1)
 then-none (some r) q = (λ h. (h, cc), λ h. h .0)
 
+pub then-assoc : (p q r : Option Refusal) → (p then (q then r)) ≡ ((p then q) then r)
+then-assoc none q r = refl
+then-assoc (some x) q r = refl
+
 pub refuse-none : (c : Bool) (number place : ℕ) → (refuse c number place ≡ none) ↔ (c ≡ false)
 refuse-none true number place = (λ h. cc, λ h. cc)
 refuse-none false number place = (λ h. refl, λ h. refl)

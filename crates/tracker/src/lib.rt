@@ -3,10 +3,15 @@ mod answer;
 mod lowest;
 mod nets;
 mod outputs;
+mod refusing;
 mod registers;
+mod starting;
+mod stepping;
 mod verdict;
 
 pub use answer::FirstFlow;
 pub use answer::RunAnswer;
 pub use answer::StepAnswer;
 pub use answer::Verdict;
+pub use starting::power_up;
+pub use stepping::step;

@@ -1,0 +1,36 @@
+-- `tracker::refusing::codes_refusal` meets its contract: the length is tried before the bytes.
+use mathlib.Core.Path.{_≡_, _∙_}
+use borrow.Author.Needs.{needs}
+use borrow.Author.Tests.{eq-eqb, ne-eqb}
+use lib.ListN.{length}
+use Rattle.netlist.specs.Check.{badLength}
+use Rattle.tracker.proofs.refusing.codes_refusal.Statement.{statement}
+use Rattle.tracker.proofs.refusing.codes_refusal.Tie as tie
+
+returns : tie.Need-returns
+unfolding badLength
+returns c = rw (ne-eqb _ _ (c .before .if1 .taken)) (c .refused .ensures)
+
+returns-2 : tie.Need-returns-2
+unfolding badLength
+returns-2 c =
+    let tested = c .before in
+    let right = tested .before in
+    rw (eq-eqb _ _ (right .if1 .left), right .before .first-bad .ensures _, ne-eqb _ _ (tested .if2 .taken)) (c .refused2 .ensures)
+
+returns-3 : tie.Need-returns-3
+unfolding badLength
+returns-3 c =
+    let right = c .before in
+    rw (eq-eqb _ _ (right .if1 .left), right .before .first-bad .ensures _, eq-eqb _ _ (c .if2 .left))
+
+pub codes-refusal-spec : {M : Type 1} → statement M
+codes-refusal-spec =
+    tie.close
+    (tie.spec
+    (λ c κs. search needs)
+    (λ c κs. search needs)
+    returns
+    (λ c κs. search needs)
+    returns-2
+    returns-3)

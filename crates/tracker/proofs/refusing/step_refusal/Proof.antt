@@ -1,0 +1,41 @@
+-- `tracker::refusing::step_refusal` meets its contract: checking comes first, and then the lent bytes.
+use mathlib.Core.Path.{_≡_, sym, ap, _∙_}
+use mathlib.Core.Option.{none}
+use native.Mathlib.Omega.{arith}
+use borrow.Author.Needs.{needs}
+use Rattle.netlist.specs.Check.{refusalIn, checkRefusal}
+use Rattle.netlist.proofs.Checked.{check-none}
+use Rattle.tracker.specs.Calls.{stepRefusal}
+use Rattle.tracker.proofs.refusing.step_refusal.Statement.{statement}
+use Rattle.tracker.proofs.refusing.step_refusal.Tie as tie
+
+returns : tie.Need-returns
+unfolding stepRefusal
+returns c =
+    let known = c .before in
+    rw (sym (known .before .before .check .ensures) ∙ ap refusalIn (known .o .given .1))
+
+-- past checking
+accepted : (c : tie.After-enum-told) → checkRefusal (c .before .before .before .before .before .before .before .args .image .now) ≡ none
+accepted c = sym (c .before .before .check .ensures) ∙ ap refusalIn (c .enum-told .given .1)
+
+sizes-of-requires : tie.Need-sizes-of-requires
+sizes-of-requires c κs = let image = check-none _ .0 (accepted c) in omega (arith, image .exact)
+
+returns-2 : tie.Need-returns-2
+unfolding stepRefusal
+returns-2 c =
+    let sized = c .before in
+    rw (accepted (sized .before)) (rw (sized .sizes-of .ensures) at (c .lent-refusal .ensures))
+
+pub step-refusal-spec : {M : Type 1} → statement M
+step-refusal-spec =
+    tie.close
+    (tie.spec
+    (λ c κs. search needs)
+    (λ c. search needs)
+    returns
+    (λ c. search needs)
+    sizes-of-requires
+    (λ c κs. search needs)
+    returns-2)

@@ -1,0 +1,105 @@
+// When power-up, step and run turn back: 1 to 8 by checking, and then 9 to 14.
+use netlist::Outcome;
+use netlist::check;
+use netlist::refused;
+use netlist::sizes_of;
+ghost use mathlib.Core.Path.{_≡_};
+ghost use mathlib.Core.Bool.{not};
+ghost use Prim.Native.Nat.{ℕ};
+ghost use lib.Dec.{eqb};
+ghost use lib.ListN.{length};
+ghost use Rattle.netlist.specs.Check.{refuse, _then_, refusalIn, badByte, badLength};
+ghost use Rattle.tracker.specs.Calls.{powerUpRefusal, stepRefusal, runRefusal};
+
+// The index of the first byte above 3, or the length where there is none.
+fn first_bad(s: &[u8]) -> usize
+    ensures { λ r. ⌜ ((number : ℕ) → badByte number 0 (now (s .entry)) ≡ refuse (not (eqb r (length (now (s .entry))))) number r) ⌝ }
+{
+    let mut i: usize = 0;
+    while i < s.len() {
+        if 3 < s[i] {
+            return i;
+        }
+        i += 1;
+    }
+    i
+}
+
+// The refusals of lent codes: a number where they are not n long, and the next where a byte is above 3.
+fn codes_refusal(number: u32, next: u32, n: usize, s: &[u8]) -> Outcome
+    ensures { λ r. ⌜ refusalIn r ≡ (badLength number n (now (s .entry)) then badByte next 0 (now (s .entry))) ⌝ }
+{
+    let bad = first_bad(s);
+    if s.len() != n {
+        return refused(number, 0);
+    }
+    if bad != s.len() {
+        return refused(next, bad);
+    }
+    Outcome::Done
+}
+
+// 10 to 14, by the lengths that are wanted.
+fn lent_refusal(registers: usize, inputs: usize, filled: usize, state: &[u8], rows: &[u8], buffer: &[u8]) -> Outcome
+    ensures { λ r. ⌜ refusalIn r
+        ≡ (badLength 10 registers (now (state .entry))
+        then badByte 11 0 (now (state .entry))
+        then badLength 12 inputs (now (rows .entry))
+        then badByte 13 0 (now (rows .entry))
+        then badLength 14 filled (now (buffer .entry))) ⌝ }
+{
+    let o = codes_refusal(10, 11, registers, state);
+    if let Outcome::Refused(r) = o {
+        return Outcome::Refused(r);
+    }
+    let p = codes_refusal(12, 13, inputs, rows);
+    if let Outcome::Refused(r) = p {
+        return Outcome::Refused(r);
+    }
+    if buffer.len() != filled {
+        return refused(14, 0);
+    }
+    Outcome::Done
+}
+
+// 1 to 8 and 10.
+pub fn power_up_refusal(image: &[u8], state: &[u8]) -> Outcome
+    ensures { λ r. ⌜ refusalIn r ≡ powerUpRefusal (now (image .entry)) (now (state .entry)) ⌝ }
+{
+    let o = check(image);
+    if let Outcome::Refused(r) = o {
+        return Outcome::Refused(r);
+    }
+    let z = sizes_of(image);
+    if state.len() != z.registers {
+        return refused(10, 0);
+    }
+    Outcome::Done
+}
+
+// 1 to 8 and 10 to 14.
+pub fn step_refusal(image: &[u8], state: &[u8], row: &[u8], nets: &[u8]) -> Outcome
+    ensures { λ r. ⌜ refusalIn r ≡ stepRefusal (now (image .entry)) (now (state .entry)) (now (row .entry)) (now (nets .entry)) ⌝ }
+{
+    let o = check(image);
+    if let Outcome::Refused(r) = o {
+        return Outcome::Refused(r);
+    }
+    let z = sizes_of(image);
+    lent_refusal(z.registers, z.inputs, z.nets, state, row, nets)
+}
+
+// 1 to 14. The number of cycles is tested before anything is multiplied by it.
+pub fn run_refusal(image: &[u8], k: usize, state: &[u8], rows: &[u8], outputs: &[u8]) -> Outcome
+    ensures { λ r. ⌜ refusalIn r ≡ runRefusal (now (image .entry)) (now (state .entry)) k (now (rows .entry)) (now (outputs .entry)) ⌝ }
+{
+    let o = check(image);
+    if let Outcome::Refused(r) = o {
+        return Outcome::Refused(r);
+    }
+    if 4096 < k {
+        return refused(9, 0);
+    }
+    let z = sizes_of(image);
+    lent_refusal(z.registers, k * z.inputs, k * z.outputs, state, rows, outputs)
+}

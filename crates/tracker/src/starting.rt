@@ -1,0 +1,21 @@
+// Power-up.
+use crate::refusing::power_up_refusal;
+use crate::registers::take_starts;
+use netlist::Outcome;
+use netlist::sizes_of;
+ghost use mathlib.Core.Path.{_≡_};
+ghost use Rattle.tracker.specs.Answers.{poweredUp};
+ghost use Rattle.tracker.specs.Calls.{powerUpOf};
+
+// Every register takes its start value, or 0 where none is given, with mark 0. What the state held is not looked at.
+pub fn power_up(image: &[u8], state: &mut [u8]) -> Outcome
+    ensures { λ r. ⌜ poweredUp r (now (state .exit)) ≡ powerUpOf (now (image .entry)) (now (state .entry)) ⌝ }
+{
+    let o = power_up_refusal(image, state);
+    if let Outcome::Refused(r) = o {
+        return Outcome::Refused(r);
+    }
+    let z = sizes_of(image);
+    take_starts(image, z.nets, state);
+    Outcome::Done
+}

@@ -1,0 +1,29 @@
+// A step: one cycle.
+use crate::answer::StepAnswer;
+use crate::nets::work_out;
+use crate::refusing::step_refusal;
+use crate::registers::clock;
+use crate::verdict::verdict_of;
+use gates::table;
+use netlist::Outcome;
+use netlist::sizes_of;
+ghost use mathlib.Core.Path.{_≡_};
+ghost use Rattle.tracker.specs.Answers.{stepped};
+ghost use Rattle.tracker.specs.Calls.{stepOf};
+
+// One cycle on a row of I bytes: it fills N net bytes, answers with the verdict, and then clocks the state.
+pub fn step(image: &[u8], state: &mut [u8], row: &[u8], nets: &mut [u8]) -> StepAnswer
+    ensures { λ r. ⌜ stepped r (now (state .exit)) (now (nets .exit))
+        ≡ stepOf (now (image .entry)) (now (state .entry)) (now (row .entry)) (now (nets .entry)) ⌝ }
+{
+    let o = step_refusal(image, state, row, nets);
+    if let Outcome::Refused(r) = o {
+        return StepAnswer::Refused(r);
+    }
+    let z = sizes_of(image);
+    let t = table();
+    work_out(image, z.nets, &t, row, state, nets);
+    let verdict = verdict_of(image, z.nets, 0, nets);
+    clock(image, z.nets, 0, nets, state);
+    StepAnswer::Done(verdict)
+}
