@@ -1,57 +1,49 @@
+-- `tracker::starting::power_up` meets its contract: a refusal leaves the state, and else the registers take their starts.
+use mathlib.Core.Path.{_≡_, sym, ap, _∙_}
+use mathlib.Core.Option.{none}
+use native.Mathlib.Omega.{arith}
 use borrow.Author.Needs.{needs}
+use Rattle.netlist.specs.declared.image.Sizes.{Sizes}
+use Rattle.netlist.specs.Check.{refusalIn}
+use Rattle.netlist.proofs.Checked.{check-none}
+use Rattle.tracker.specs.Calls.{powerUpRefusal}
+use Rattle.tracker.proofs.Calls.{power-up-accepted, power-up-refused, power-up-none}
 use Rattle.tracker.proofs.starting.power_up.Statement.{statement}
 use Rattle.tracker.proofs.starting.power_up.Tie as tie
-use Rattle.tracker.proofs.starting.power_up.Reads as reads
-use Rattle.tracker.proofs.starting.power_up.Lts as lts
-use Rattle.netlist.proofs.sizes_of.Reads as sizes-of-reads
-use Rattle.tracker.proofs.refusing.power_up_refusal.Reads as power-up-refusal-reads
-use Rattle.tracker.proofs.registers.take_starts.Reads as take-starts-reads
 
--- src/starting.rt:14:9
-power-up-refusal-requires : tie.Need-power-up-refusal-requires
-power-up-refusal-requires c κs = search needs
-
--- src/starting.rt:15:29
-enum-known-o : tie.Need-enum-known-o
-enum-known-o c = search needs
-
--- src/starting.rt:16:9
-same-length : tie.Need-same-length
-same-length c = search needs
-
--- src/starting.rt:16:9
 returns : tie.Need-returns
-returns c = ?
+returns c =
+    let known = c .before in
+    sym (power-up-refused _ _ _ (sym (known .before .before .power-up-refusal .ensures) ∙ ap refusalIn (known .o .given .1)))
 
-enum-told : tie.Need-enum-told
-enum-told c = search needs
+-- past the refusals
+accepted : (c : tie.After-enum-told) → let args = c .before .before .before .before .before .before .args in powerUpRefusal (args .image .now) (args .state .now) ≡ none
+accepted c = sym (c .before .before .power-up-refusal .ensures) ∙ ap refusalIn (c .enum-told .given .1)
 
--- src/starting.rt:18:9
 sizes-of-requires : tie.Need-sizes-of-requires
-sizes-of-requires c κs = ?
+sizes-of-requires c κs = let image = power-up-none _ _ .0 (accepted c) .0 in omega (arith, image .exact)
 
--- src/starting.rt:19:5
 take-starts-requires : tie.Need-take-starts-requires
-take-starts-requires c κs = ?
+take-starts-requires c κs =
+    let sized = c .before in
+    let ready = power-up-none _ _ .0 (accepted (sized .before)) in
+    (check-none _ .1 (ready .0), (ap (λ (z : Sizes). z .nets) (sized .sizes-of .ensures), ready .1))
 
--- src/starting.rt:11:1
-same-length-2 : tie.Need-same-length-2
-same-length-2 c = search needs
-
--- src/starting.rt:11:1
 returns-2 : tie.Need-returns-2
-returns-2 c = ?
+returns-2 c =
+    let started = c .before .before in
+    rw (started .take-starts .ensures) (sym (power-up-accepted _ _ (accepted (started .before .before .before))))
 
 pub power-up-spec : {M : Type 1} → statement M
 power-up-spec =
     tie.close
     (tie.spec
-    power-up-refusal-requires
-    enum-known-o
-    same-length
+    (λ c κs. search needs)
+    (λ c. search needs)
+    (λ c. search needs)
     returns
-    enum-told
+    (λ c. search needs)
     sizes-of-requires
     take-starts-requires
-    same-length-2
+    (λ c. search needs)
     returns-2)

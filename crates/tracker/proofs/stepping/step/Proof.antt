@@ -1,85 +1,93 @@
+-- `tracker::stepping::step` meets its contract: a refusal leaves the state and the net bytes, and else they are those of the cycle.
+use Prim.Native.Nat.{_≤_}
+use mathlib.Core.Path.{_≡_, sym, ap, _∙_}
+use mathlib.Core.Option.{none}
+use lib.ListN.{length}
+use native.Mathlib.Omega.{arith}
 use borrow.Author.Needs.{needs}
+use Rattle.netlist.specs.declared.image.Sizes.{Sizes}
+use Rattle.netlist.specs.Image.{sizesOf}
+use Rattle.netlist.specs.Check.{refusalIn}
+use Rattle.netlist.proofs.Checked.{check-none}
+use Rattle.tracker.specs.Cycle.{cycleOf}
+use Rattle.tracker.specs.Calls.{stepRefusal, asStep}
+use Rattle.tracker.proofs.Calls.{Ready, step-accepted, step-refused, step-none}
 use Rattle.tracker.proofs.stepping.step.Statement.{statement}
 use Rattle.tracker.proofs.stepping.step.Tie as tie
-use Rattle.tracker.proofs.stepping.step.Reads as reads
-use Rattle.tracker.proofs.stepping.step.Lts as lts
-use Rattle.gates.proofs.table.Reads as table-reads
-use Rattle.netlist.proofs.sizes_of.Reads as sizes-of-reads
-use Rattle.tracker.proofs.nets.work_out.Reads as work-out-reads
-use Rattle.tracker.proofs.refusing.step_refusal.Reads as step-refusal-reads
-use Rattle.tracker.proofs.registers.clock.Reads as clock-reads
-use Rattle.tracker.proofs.verdict.verdict_of.Reads as verdict-of-reads
 
--- src/stepping.rt:19:9
-step-refusal-requires : tie.Need-step-refusal-requires
-step-refusal-requires c κs = search needs
-
--- src/stepping.rt:20:29
-enum-known-o : tie.Need-enum-known-o
-enum-known-o c = search needs
-
--- src/stepping.rt:21:9
-same-length : tie.Need-same-length
-same-length c = search needs
-
--- src/stepping.rt:21:9
-same-length-2 : tie.Need-same-length-2
-same-length-2 c = search needs
-
--- src/stepping.rt:21:9
 returns : tie.Need-returns
-returns c = ?
+returns c =
+    let known = c .before in
+    sym (step-refused _ _ _ _ _ (sym (known .before .before .step-refusal .ensures) ∙ ap refusalIn (known .o .given .1)))
 
-enum-told : tie.Need-enum-told
-enum-told c = search needs
+-- past the refusals
+accepted : (c : tie.After-enum-told)
+    → let args = c .before .before .before .before .before .before .before .before .before .args in
+    stepRefusal (args .image .now) (args .state .now) (args .row .now) (args .nets .now) ≡ none
+accepted c = sym (c .before .before .step-refusal .ensures) ∙ ap refusalIn (c .enum-told .given .1)
 
--- src/stepping.rt:23:9
+ready : (c : tie.After-enum-told)
+    → let args = c .before .before .before .before .before .before .before .before .before .args in
+    Ready (args .image .now) (args .state .now) (sizesOf (args .image .now) .inputs) (args .row .now)
+ready c = step-none _ _ _ _ .0 (accepted c) .0
+
 sizes-of-requires : tie.Need-sizes-of-requires
-sizes-of-requires c κs = ?
+sizes-of-requires c κs = omega (arith, ready c .image .exact)
 
--- src/stepping.rt:24:13
-table-requires : tie.Need-table-requires
-table-requires c κs = search needs
+-- the sizes that were read
+nets-are : (c : tie.After-sizes-of) → c .sizes-of .result .nets ≡ sizesOf (c .before .before .before .before .before .before .before .before .before .before .args .image .now) .nets
+nets-are c = ap (λ (z : Sizes). z .nets) (c .sizes-of .ensures)
 
--- src/stepping.rt:25:5
 work-out-requires : tie.Need-work-out-requires
-work-out-requires c κs = ?
+work-out-requires c κs =
+    let taken = c .before .before .before in
+    let sized = taken .before in
+    (taken .table .ensures, (accepted (sized .before), nets-are sized))
 
--- src/stepping.rt:26:9
+-- the net bytes that were worked out are as many as before
+nets-size : (c : tie.After-work-out)
+    → length (c .work-out .last .1 .1 .1 .1 .1 .0) ≡ c .before .before .before .before .before .sizes-of .result .nets
+nets-size c =
+    let sized = c .before .before .before .before .before in
+    c .work-out .kept .1 .1 .1 .1 .1 .0 ∙ step-none _ _ _ _ .0 (accepted (sized .before)) .1 ∙ sym (nets-are sized)
+
 verdict-of-requires : tie.Need-verdict-of-requires
-verdict-of-requires c κs = ?
+verdict-of-requires c κs =
+    let worked = c .before .before .before in
+    let sized = worked .before .before .before .before .before in
+    (check-none _ .1 (ready (sized .before) .image), ((nets-are sized, nets-size worked), (omega arith, λ i h. absurd (omega arith))))
 
--- src/stepping.rt:27:5
 clock-requires : tie.Need-clock-requires
-clock-requires c κs = ?
+clock-requires c κs =
+    let worked = c .before .before .before .before .before .before in
+    let sized = worked .before .before .before .before .before in
+    let r = ready (sized .before) in
+    (check-none _ .1 (r .image), ((nets-are sized, nets-size worked, r .state .size), (omega arith, λ i h. absurd (omega arith))))
 
--- src/stepping.rt:15:1
-same-length-3 : tie.Need-same-length-3
-same-length-3 c = search needs
-
--- src/stepping.rt:15:1
-same-length-4 : tie.Need-same-length-4
-same-length-4 c = search needs
-
--- src/stepping.rt:15:1
 returns-2 : tie.Need-returns-2
-returns-2 c = ?
+unfolding cycleOf asStep
+returns-2 c =
+    let clocked = c .before .before in
+    let judged = clocked .before .before .before in
+    let worked = judged .before .before .before .before in
+    rw (clocked .clock .ensures, judged .verdict-of .ensures, worked .work-out .ensures)
+    (sym (step-accepted _ _ _ _ (accepted (worked .before .before .before .before .before .before))))
 
 pub step-spec : {M : Type 1} → statement M
 step-spec =
     tie.close
     (tie.spec
-    step-refusal-requires
-    enum-known-o
-    same-length
-    same-length-2
+    (λ c κs. search needs)
+    (λ c. search needs)
+    (λ c. search needs)
+    (λ c. search needs)
     returns
-    enum-told
+    (λ c. search needs)
     sizes-of-requires
-    table-requires
+    (λ c κs. search needs)
     work-out-requires
     verdict-of-requires
     clock-requires
-    same-length-3
-    same-length-4
+    (λ c. search needs)
+    (λ c. search needs)
     returns-2)
