@@ -2,12 +2,12 @@
 use Prim.Native.Nat.{ℕ, suc, _+_, _≤_, _<_}
 use native.Mathlib.Numerals.{add-one}
 use native.Mathlib.Omega.{arith}
-use mathlib.Core.Path.{_≡_, refl, sym, _∙_}
+use mathlib.Core.Path.{_≡_, refl, sym, ap, _∙_}
 use mathlib.Core.List.{List, [], _∷_, _++_, append-assoc, append-nil}
 use mathlib.Core.Bool.{cond}
 use lib.Dec.{eqb}
-use lib.ListN.{length, getD, take, set, length-set, length-append}
-use lib.Seq.{length-take-le, take-suc-set, take-all}
+use lib.ListN.{length, getD, take, drop, set, length-append, length-drop}
+use lib.Seq.{length-take-le, set-split, take-at, take-all}
 use borrow.Author.Tests.{eq-eqb, ne-eqb}
 use Rattle.gates.specs.Kinds.{REG, OUT}
 use Rattle.netlist.specs.declared.image.Net.{Net}
@@ -23,13 +23,23 @@ pub record Filled (whole buffer : List ℕ) (j : ℕ) (left : List ℕ) : Type 0
 pub fill-begins : {whole buffer left : List ℕ} → whole ≡ left → length whole ≡ length buffer → Filled whole buffer 0 left
 fill-begins e h = record { whole-is = e; room = omega (arith, rw e at h) }
 
+-- with some more bytes in place
+pub fill-part : {whole buffer : List ℕ} {j : ℕ} (ys : List ℕ) {left : List ℕ} → Filled whole buffer j (ys ++ left)
+    → Filled whole (take j buffer ++ (ys ++ drop (j + length ys) buffer)) (j + length ys) left
+fill-part {buffer = buffer} {j} ys {left} f =
+    let size : length (take j buffer) ≡ j = length-take-le j buffer (omega (arith, f .room)) in
+    let fits : j + length ys + length left ≡ length buffer = omega (arith, f .room, length-append ys left) in
+    let now : length (take j buffer ++ ys) ≡ j + length ys = length-append (take j buffer) ys ∙ ap (λ m. m + length ys) size in
+    record {
+      whole-is = f .whole-is ∙ rw (← append-assoc (take j buffer) ys (drop (j + length ys) buffer), take-at (take j buffer ++ ys) (drop (j + length ys) buffer) (j + length ys) now, append-assoc);
+      room = simp (length-append, length-drop) (omega arith);
+    }
+
+-- with one more
 pub fill-goes-on : {whole buffer : List ℕ} {j : ℕ} {y : ℕ} {left : List ℕ} → Filled whole buffer j (y ∷ left) → Filled whole (set buffer j y) (j + 1) left
 fill-goes-on {buffer = buffer} {j} {y} {left} f =
     let h : j < length buffer = omega (arith, f .room) in
-    record {
-      whole-is = rw (add-one j, take-suc-set buffer j y h, append-assoc) (f .whole-is);
-      room = omega (arith, f .room, length-set buffer j y);
-    }
+    rw (set-split buffer j y h, ← add-one j) (fill-part (y ∷ []) f)
 
 pub fill-room : {whole buffer : List ℕ} {j : ℕ} {y : ℕ} {left : List ℕ} → Filled whole buffer j (y ∷ left) → j < length buffer
 fill-room f = omega (arith, f .room)

@@ -1,9 +1,14 @@
 // Where a pass over the nets of one kind may start.
+use gates::OUT;
+use gates::REG;
 use netlist::kind_at;
+use netlist::sizes_of;
 ghost use mathlib.Core.Path.{_≡_};
+ghost use mathlib.Core.Option.{none};
 ghost use Prim.Native.Nat.{_+_, _≤_};
 ghost use lib.ListN.{length};
-ghost use Rattle.tracker.specs.Passes.{NoneBelow};
+ghost use Rattle.netlist.specs.Check.{checkRefusal};
+ghost use Rattle.tracker.specs.Passes.{NoneBelow, Bounded};
 
 // The lowest net of a kind, or n where there is none.
 pub fn lowest(image: &[u8], n: usize, kind: u8) -> usize
@@ -18,4 +23,23 @@ pub fn lowest(image: &[u8], n: usize, kind: u8) -> usize
         i += 1;
     }
     i
+}
+
+// What a run finds out once: the number of nets, and where its passes over OUTs and over REGs start.
+pub struct Bounds {
+    pub nets: usize,
+    pub outs: usize,
+    pub regs: usize,
+}
+
+pub fn bounds_of(image: &[u8]) -> Bounds
+    requires { ⌜ checkRefusal (now image) ≡ none ⌝ }
+    ensures { λ r. ⌜ Bounded (now (image .entry)) r ⌝ }
+{
+    let z = sizes_of(image);
+    Bounds {
+        nets: z.nets,
+        outs: lowest(image, z.nets, OUT),
+        regs: lowest(image, z.nets, REG),
+    }
 }

@@ -52,15 +52,31 @@ fn net_byte(
         let b = operand_at(image, n, i, 1);
         let c = operand_at(image, n, i, 2);
         let byte = gate_byte(t, kind, nets[a], nets[b], nets[c]);
-        return Taken { byte, inputs, registers };
+        return Taken {
+            byte,
+            inputs,
+            registers,
+        };
     }
     if kind == INPUT {
-        return Taken { byte: row[inputs], inputs: inputs + 1, registers };
+        return Taken {
+            byte: row[inputs],
+            inputs: inputs + 1,
+            registers,
+        };
     }
     if kind == REG {
-        return Taken { byte: state[registers], inputs, registers: registers + 1 };
+        return Taken {
+            byte: state[registers],
+            inputs,
+            registers: registers + 1,
+        };
     }
-    Taken { byte: a as u8, inputs, registers }
+    Taken {
+        byte: a as u8,
+        inputs,
+        registers,
+    }
 }
 
 // The bytes of all nets, in net order: the row's for INPUTs, the state's for REGs, and a code of the table for gates and OUTs.

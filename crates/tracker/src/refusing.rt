@@ -40,7 +40,14 @@ fn codes_refusal(number: u32, next: u32, n: usize, s: &[u8]) -> Outcome
 }
 
 // 10 to 14, by the lengths that are wanted.
-fn lent_refusal(registers: usize, inputs: usize, filled: usize, state: &[u8], rows: &[u8], buffer: &[u8]) -> Outcome
+fn lent_refusal(
+    registers: usize,
+    inputs: usize,
+    filled: usize,
+    state: &[u8],
+    rows: &[u8],
+    buffer: &[u8],
+) -> Outcome
     ensures { λ r. ⌜ refusalIn r
         ≡ (badLength 10 registers (now (state .entry))
         then badByte 11 0 (now (state .entry))
@@ -101,5 +108,12 @@ pub fn run_refusal(image: &[u8], k: usize, state: &[u8], rows: &[u8], outputs: &
         return refused(9, 0);
     }
     let z = sizes_of(image);
-    lent_refusal(z.registers, k * z.inputs, k * z.outputs, state, rows, outputs)
+    lent_refusal(
+        z.registers,
+        k * z.inputs,
+        k * z.outputs,
+        state,
+        rows,
+        outputs,
+    )
 }

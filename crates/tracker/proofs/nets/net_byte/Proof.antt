@@ -71,11 +71,13 @@ returns c =
     let byte = rw (taken .before .before .kind-at .ensures, taken .before .operand-at .ensures .0, at .before .operand-at2 .ensures .0, at .operand-at3 .ensures .0) at (c .gate-byte .ensures) in
     let args = start (taken .before) .args in
     let k = kindAt (args .image .now) (args .i) in
-    let gates : 3 ≤ k = is-gate taken in
-    (byte ∙ sym (gate-byte (pre .1 .1) (pre .1 .0 .0) (pre .1 .0 .2) gates), (
-      rw (ne-eqb k INPUT (λ e. omega arith)) (omega arith),
-      rw (ne-eqb k REG (λ e. omega arith)) (omega arith),
-    ))
+    let gates : 3 ≤ k = is-gate taken in (
+      byte ∙ sym (gate-byte (pre .1 .1) (pre .1 .0 .0) (pre .1 .0 .2) gates),
+      (
+        rw (ne-eqb k INPUT (λ e. omega arith)) (omega arith),
+        rw (ne-eqb k REG (λ e. omega arith)) (omega arith),
+      ),
+    )
 
 -- A ROW BYTE, A STATE BYTE, A CONSTANT
 is-input : (c : tie.Then2) → let args = start (c .before .before) .args in kindAt (args .image .now) (args .i) ≡ INPUT

@@ -38,11 +38,11 @@ loop-holds c =
     let begins = walk-begins {n = n} (ready start) (start .pre .1 .1) in
     ⊎-elim
     (λ w.
-      let e = w .1 in
-      begins (rw e (length-set nets 1 0 ∙ l)) (rw e (getD-set-same nets 1 0 0 (omega arith))))
+    let e = w .1 in
+    begins (rw e (length-set nets 1 0 ∙ l)) (rw e (getD-set-same nets 1 0 0 (omega arith))))
     (λ w.
-      let e = w .1 in
-      begins (rw e l) (rw e (List·getD-eq-default nets 0 (omega arith))))
+    let e = w .1 in
+    begins (rw e l) (rw e (List·getD-eq-default nets 0 (omega arith))))
     (c .if1 .came)
 
 net-byte-requires : tie.Need-net-byte-requires Inv-loop μ-loop

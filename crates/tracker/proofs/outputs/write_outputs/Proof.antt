@@ -40,10 +40,12 @@ loop-holds c =
     let from = pre .1 .1 in
     let s = start .args .image .now in
     let bs = start .args .nets .now in
-    let all = nets-left s (start .args .n) (size .0) in
-    (from .0, fill-begins
-      (rw (← all) (selection-from s _ _ (from .0) (outputs-selected bs) (from .1)))
-      (whole-length start))
+    let all = nets-left s (start .args .n) (size .0) in (
+      from .0,
+      fill-begins
+          (rw (← all) (selection-from s _ _ (from .0) (outputs-selected bs) (from .1)))
+          (whole-length start),
+    )
 
 kind-at-requires : tie.Need-kind-at-requires Inv-loop μ-loop
 kind-at-requires c κs =
@@ -83,13 +85,15 @@ loop-again : tie.Need-loop-again Inv-loop μ-loop
 loop-again c =
     let turn = c .before .before in
     let at = turn .before in
-    let args = at .before .before .before .before .args in
-    (omega (arith, turn .loop-test .taken), ⊎-elim
-      (λ w. rw (w .2, w .3) (fill-goes-on (this-out (record { before = c .before; if1 = w .0 }))))
-      (λ w.
-        let other : kindAt (args .image .now) (at .loop .i) ≡ OUT → ⊥ = λ e. w .0 .left (c .before .kind-at .ensures ∙ e) in
-        rw (w .1, w .2) (passes-over (outputs-selected (args .nets .now)) (args .image .now) (args .n) (at .loop .i) (at .loop .inv .1) (turn .loop-test .taken) other))
-      (c .if1 .came))
+    let args = at .before .before .before .before .args in (
+      omega (arith, turn .loop-test .taken),
+      ⊎-elim
+          (λ w. rw (w .2, w .3) (fill-goes-on (this-out (record { before = c .before; if1 = w .0 }))))
+          (λ w.
+          let other : kindAt (args .image .now) (at .loop .i) ≡ OUT → ⊥ = λ e. w .0 .left (c .before .kind-at .ensures ∙ e) in
+          rw (w .1, w .2) (passes-over (outputs-selected (args .nets .now)) (args .image .now) (args .n) (at .loop .i) (at .loop .inv .1) (turn .loop-test .taken) other))
+          (c .if1 .came),
+    )
 
 returns : tie.Need-returns Inv-loop μ-loop
 returns c =

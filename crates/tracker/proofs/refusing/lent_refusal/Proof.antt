@@ -47,7 +47,7 @@ returns c =
     let state = known .before .before in
     let args = state .before .before .before .before .args in
     sym (state-stops (args .registers) (args .inputs) (args .filled) (args .state .now) (args .rows .now) (args .buffer .now)
-      (sym (state .codes-refusal .ensures) ∙ ap refusalIn (known .o .given .1)))
+    (sym (state .codes-refusal .ensures) ∙ ap refusalIn (known .o .given .1)))
 
 -- past the state
 state-right : (c : tie.After-enum-told)
@@ -61,7 +61,7 @@ returns-2 c =
     let rows = known .before .before in
     let args = rows .before .before .before .before .before .before .before .args in
     sym (rows-stop (args .registers) (args .inputs) (args .filled) (args .state .now) (args .rows .now) (args .buffer .now) (state-right (rows .before))
-      (sym (rows .codes-refusal2 .ensures) ∙ ap refusalIn (known .p .given .1)))
+    (sym (rows .codes-refusal2 .ensures) ∙ ap refusalIn (known .p .given .1)))
 
 -- past the rows
 rows-right : (c : tie.After-enum-told2)

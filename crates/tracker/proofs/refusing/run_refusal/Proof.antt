@@ -1,8 +1,6 @@
 -- `tracker::refusing::run_refusal` meets its contract: checking comes first, then the number of cycles, and then the lent bytes. No product wraps.
-use Prim.Native.Nat.{ℕ, _*_, _^_, _≤_, _<_}
 use mathlib.Core.Path.{_≡_, sym, ap, _∙_}
 use mathlib.Core.Option.{none}
-use native.Mathlib.Nat.{mul-le-mul}
 use native.Mathlib.Omega.{arith}
 use borrow.Author.Needs.{needs}
 use borrow.Author.Tests.{lt-ltb, le-ltb}
@@ -10,6 +8,7 @@ use Rattle.gates.specs.Kinds.{INPUT, OUT}
 use Rattle.netlist.specs.Check.{refusalIn, checkRefusal}
 use Rattle.netlist.proofs.Checked.{check-none, few-of}
 use Rattle.tracker.specs.Calls.{runRefusal}
+use Rattle.tracker.proofs.Runs.{product-fits}
 use Rattle.tracker.proofs.refusing.run_refusal.Statement.{statement}
 use Rattle.tracker.proofs.refusing.run_refusal.Tie as tie
 
@@ -30,21 +29,17 @@ returns-2 c = rw (accepted (c .before .before), lt-ltb 4096 _ (c .before .if1 .t
 sizes-of-requires : tie.Need-sizes-of-requires
 sizes-of-requires c κs = let image = check-none _ .0 (accepted (c .before)) in omega (arith, image .exact)
 
--- 4,096 cycles of 8,192 bytes
-product : {k : ℕ} (m : ℕ) → k ≤ 4096 → m ≤ 8192 → k * m < 2 ^ 64
-product m h l = let p = mul-le-mul h l in omega arith
-
 mul-lent-refusal : tie.Need-mul-lent-refusal
 mul-lent-refusal c =
     let sized = c .before in
     let image = check-none _ .0 (accepted (sized .before .before)) in
-    rw (sized .sizes-of .ensures) (record { fits = product _ (sized .before .if1 .left) (omega (arith, image .inputs, few-of image INPUT)) })
+    rw (sized .sizes-of .ensures) (record { fits = product-fits (sized .before .if1 .left) (omega (arith, image .inputs, few-of image INPUT)) })
 
 mul-lent-refusal-2 : tie.Need-mul-lent-refusal-2
 mul-lent-refusal-2 c =
     let sized = c .before .before in
     let image = check-none _ .0 (accepted (sized .before .before)) in
-    rw (sized .sizes-of .ensures) (record { fits = product _ (sized .before .if1 .left) (omega (arith, image .outputs, few-of image OUT)) })
+    rw (sized .sizes-of .ensures) (record { fits = product-fits (sized .before .if1 .left) (omega (arith, image .outputs, few-of image OUT)) })
 
 returns-3 : tie.Need-returns-3
 unfolding runRefusal

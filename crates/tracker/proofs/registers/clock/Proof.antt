@@ -44,10 +44,12 @@ loop-holds c =
     let size = start .pre .1 .0 in
     let from = start .pre .1 .1 in
     let s = start .args .image .now in
-    let all = nets-left s (start .args .n) (size .0) in
-    (from .0, fill-begins
-      (rw (← all) (selection-from s _ _ (from .0) (registers-selected (taken (start .args .nets .now))) (from .1)))
-      (whole-length start))
+    let all = nets-left s (start .args .n) (size .0) in (
+      from .0,
+      fill-begins
+          (rw (← all) (selection-from s _ _ (from .0) (registers-selected (taken (start .args .nets .now))) (from .1)))
+          (whole-length start),
+    )
 
 kind-at-requires : tie.Need-kind-at-requires Inv-loop μ-loop
 kind-at-requires c κs =
@@ -105,13 +107,15 @@ loop-again c =
     let turn = c .before .before in
     let at = turn .before in
     let args = at .before .before .before .before .args in
-    let s = args .image .now in
-    (omega (arith, turn .loop-test .taken), ⊎-elim
-      (λ w. rw (w .3, w .4, w .1 .ensures .0) (fill-goes-on (this-register (record { before = c .before; if1 = w .0 }))))
-      (λ w.
-        let other : kindAt s (at .loop .i) ≡ REG → ⊥ = λ e. w .0 .left (c .before .kind-at .ensures ∙ e) in
-        rw (w .1, w .2) (passes-over (registers-selected (taken (args .nets .now))) s (args .n) (at .loop .i) (at .loop .inv .1) (turn .loop-test .taken) other))
-      (c .if1 .came))
+    let s = args .image .now in (
+      omega (arith, turn .loop-test .taken),
+      ⊎-elim
+          (λ w. rw (w .3, w .4, w .1 .ensures .0) (fill-goes-on (this-register (record { before = c .before; if1 = w .0 }))))
+          (λ w.
+          let other : kindAt s (at .loop .i) ≡ REG → ⊥ = λ e. w .0 .left (c .before .kind-at .ensures ∙ e) in
+          rw (w .1, w .2) (passes-over (registers-selected (taken (args .nets .now))) s (args .n) (at .loop .i) (at .loop .inv .1) (turn .loop-test .taken) other))
+          (c .if1 .came),
+    )
 
 returns : tie.Need-returns Inv-loop μ-loop
 unfolding clocked

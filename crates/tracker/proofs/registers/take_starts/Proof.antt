@@ -80,13 +80,15 @@ loop-again c =
     let turn = c .before .before in
     let at = turn .before in
     let args = at .before .before .before .args in
-    let s = args .image .now in
-    (omega (arith, turn .loop-test .taken), ⊎-elim
-      (λ w. rw (w .3, w .4, w .2 .ensures, w .1 .ensures .0) (fill-goes-on (this-register (record { before = c .before; if1 = w .0 }))))
-      (λ w.
-        let other : kindAt s (at .loop .i) ≡ REG → ⊥ = λ e. w .0 .left (c .before .kind-at .ensures ∙ e) in
-        rw (w .1, w .2) (passes-over (registers-selected taken) s (args .n) (at .loop .i) (at .loop .inv .1) (turn .loop-test .taken) other))
-      (c .if1 .came))
+    let s = args .image .now in (
+      omega (arith, turn .loop-test .taken),
+      ⊎-elim
+          (λ w. rw (w .3, w .4, w .2 .ensures, w .1 .ensures .0) (fill-goes-on (this-register (record { before = c .before; if1 = w .0 }))))
+          (λ w.
+          let other : kindAt s (at .loop .i) ≡ REG → ⊥ = λ e. w .0 .left (c .before .kind-at .ensures ∙ e) in
+          rw (w .1, w .2) (passes-over (registers-selected taken) s (args .n) (at .loop .i) (at .loop .inv .1) (turn .loop-test .taken) other))
+          (c .if1 .came),
+    )
 
 returns : tie.Need-returns Inv-loop μ-loop
 unfolding starts
