@@ -5,9 +5,11 @@ use crate::images::one;
 use crate::images::three_nets;
 use crate::images::two;
 use crate::print::outcome;
+use crate::print::text;
 
 fn show(name: &[u8], image: &[u8]) {
     outcome(name, netlist::check(image));
+    text(b"\n");
 }
 
 fn show_one(name: &[u8], counts: [u8; 3], net: [u8; 4]) {

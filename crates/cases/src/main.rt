@@ -3,6 +3,9 @@ mod checking;
 mod gate_bytes;
 mod images;
 mod print;
+mod running;
+mod starting;
+mod stepping;
 
 fn main() {
     gate_bytes::truth_tables();
@@ -15,4 +18,13 @@ fn main() {
     checking::values_and_unlisted();
     checking::order();
     checking::limits();
+    starting::power_ups();
+    stepping::four_rows();
+    stepping::other_netlists();
+    stepping::refused();
+    stepping::refused_in_order();
+    running::short_runs();
+    running::longest_run();
+    running::refused();
+    running::refused_in_order();
 }
