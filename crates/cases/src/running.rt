@@ -7,7 +7,7 @@ use crate::images::three_outs;
 use crate::print::bytes;
 use crate::print::run_answer;
 use crate::print::text;
-ghost use Prim.Native.Nat.{_≤_};
+ghost use Prim.Native.Nat.{_+_, _≤_};
 ghost use lib.ListN.{length};
 
 fn call(name: &[u8], image: &[u8], k: usize, state: &mut [u8], rows: &[u8], outputs: &mut [u8]) {
@@ -85,13 +85,12 @@ pub fn short_runs() {
     );
 }
 
-// The first four bytes of a buffer, and the last four.
-fn ends(name: &[u8], s: &[u8])
-    requires { ⌜ 4 ≤ length (now s) ⌝ }
+// Four bytes of a buffer, from a place on.
+fn four(name: &[u8], s: &[u8], from: usize)
+    requires { ⌜ from + 4 ≤ length (now s) ⌝ }
 {
-    bytes(name, &s[..4]);
-    let last = s.len() - 4;
-    bytes(b" ..", &s[last..]);
+    let end = from + 4;
+    bytes(name, &s[from..end]);
 }
 
 fn call_long(name: &[u8], image: &[u8], k: usize, state: &mut [u8], rows: &[u8], outputs: &mut [u8])
@@ -99,7 +98,8 @@ fn call_long(name: &[u8], image: &[u8], k: usize, state: &mut [u8], rows: &[u8],
 {
     run_answer(name, tracker::run(image, k, state, rows, outputs));
     bytes(b", state", state);
-    ends(b", outputs", outputs);
+    four(b", outputs", outputs, 0);
+    four(b" ..", outputs, outputs.len() - 4);
     text(b"\n");
 }
 
