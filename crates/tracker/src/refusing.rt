@@ -4,17 +4,34 @@ use netlist::check;
 use netlist::refused;
 use netlist::sizes_of;
 ghost use mathlib.Core.Path.{_≡_};
-ghost use mathlib.Core.Bool.{not};
+ghost use mathlib.Core.Bool.{false, not};
+ghost use mathlib.Core.Option.{none};
 ghost use Prim.Native.Nat.{ℕ};
 ghost use lib.Dec.{eqb};
 ghost use lib.ListN.{length};
 ghost use Rattle.netlist.specs.Check.{refuse, _then_, refusalIn, badByte, badLength};
 ghost use Rattle.tracker.specs.Calls.{powerUpRefusal, stepRefusal, runRefusal};
 
+// Whether a byte is above 3. The pass does not end at such a byte, so that the compiler may test many bytes at once.
+fn any_bad(s: &[u8]) -> bool
+    ensures { λ r. ⌜ (r ≡ false → (number : ℕ) → badByte number 0 (now (s .entry)) ≡ none) ⌝ }
+{
+    let mut bad = false;
+    let mut i: usize = 0;
+    while i < s.len() {
+        bad = bad | (3 < s[i]);
+        i += 1;
+    }
+    bad
+}
+
 // The index of the first byte above 3, or the length where there is none.
 fn first_bad(s: &[u8]) -> usize
     ensures { λ r. ⌜ ((number : ℕ) → badByte number 0 (now (s .entry)) ≡ refuse (not (eqb r (length (now (s .entry))))) number r) ⌝ }
 {
+    if !any_bad(s) {
+        return s.len();
+    }
     let mut i: usize = 0;
     while i < s.len() {
         if 3 < s[i] {

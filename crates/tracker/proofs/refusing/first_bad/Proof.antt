@@ -1,15 +1,12 @@
 -- `tracker::refusing::first_bad` meets its contract. At index i, the first bad byte is that of the bytes that are left.
-use Prim.Native.Nat.{ℕ, suc, _+_, _-_, _≤_, _<_}
-use native.Mathlib.Numerals.{add-one}
+use Prim.Native.Nat.{ℕ, _-_, _≤_}
 use native.Mathlib.Omega.{arith}
 use mathlib.Core.Path.{_≡_, refl, _∙_}
-use mathlib.Core.List.{List, []}
-use mathlib.Core.Option.{none, some}
-use lib.ListN.{length, getD, drop, drop-of-length-le}
-use lib.Seq.{drop-cons}
+use lib.ListN.{length, drop}
 use borrow.Author.Needs.{needs}
-use borrow.Author.Tests.{lt-ltb, le-ltb, eq-eqb, ne-eqb}
-use Rattle.netlist.specs.Check.{refusal, badByte}
+use borrow.Author.Tests.{eq-eqb, ne-eqb, not-true}
+use Rattle.netlist.specs.Check.{badByte}
+use Rattle.tracker.proofs.BadBytes.{bad-here, bad-later, bad-nowhere}
 use Rattle.tracker.proofs.refusing.first_bad.Statement.{statement}
 use Rattle.tracker.proofs.refusing.first_bad.Tie as tie
 
@@ -19,39 +16,34 @@ Inv-loop s i₀ i = (i ≤ length s) × ((number : ℕ) → badByte number 0 s �
 abbrev μ-loop : tie.MeasureT-loop
 μ-loop s i₀ i = length s - i
 
--- the byte at index i decides, or leaves it to those that follow
-bad-here : (number : ℕ) (s : List ℕ) (i : ℕ) → i < length s → 3 < getD s i 0 → badByte number i (drop i s) ≡ some (refusal number i)
-unfolding badByte
-bad-here number s i h b = rw (drop-cons s i 0 h, lt-ltb 3 (getD s i 0) b)
-
-bad-later : (number : ℕ) (s : List ℕ) (i : ℕ) → i < length s → getD s i 0 ≤ 3 → badByte number i (drop i s) ≡ badByte number (i + 1) (drop (i + 1) s)
-unfolding badByte
-bad-later number s i h b = rw (drop-cons s i 0 h, le-ltb 3 (getD s i 0) b, add-one i)
-
-bad-nowhere : (number : ℕ) (s : List ℕ) (i : ℕ) → length s ≤ i → badByte number i (drop i s) ≡ none
-unfolding badByte
-bad-nowhere number s i h = rw (drop-of-length-le s h)
-
 returns : tie.Need-returns Inv-loop μ-loop
 returns c number =
+    let s = c .before .before .before .args .s .now in
+    rw (eq-eqb (length s) (length s) refl) (c .before .any-bad .ensures (not-true _ (c .if1 .taken)) number)
+
+returns-2 : tie.Need-returns-2 Inv-loop μ-loop
+returns-2 c number =
     let turn = c .before .before in
     let at = turn .before in
-    let s = at .before .args .s .now in
+    let s = at .before .before .before .before .args .s .now in
     let i = at .loop .i in
-    rw (ne-eqb i (length s) (λ e. omega (arith, turn .loop-test .taken))) (at .loop .inv .1 number ∙ bad-here number s i (turn .loop-test .taken) (c .if1 .taken))
+    rw (ne-eqb i (length s) (λ e. omega (arith, turn .loop-test .taken)))
+    (at .loop .inv .1 number ∙ bad-here number s i (turn .loop-test .taken) (c .if2 .taken))
 
 loop-again : tie.Need-loop-again Inv-loop μ-loop
 loop-again c =
     let turn = c .before .before in
     let at = turn .before in
-    (omega arith, λ number. at .loop .inv .1 number ∙ bad-later number (at .before .args .s .now) (at .loop .i) (turn .loop-test .taken) (c .if1 .left))
+    let s = at .before .before .before .before .args .s .now in
+    (omega arith, λ number. at .loop .inv .1 number ∙ bad-later number s (at .loop .i) (turn .loop-test .taken) (c .if2 .left))
 
-returns-2 : tie.Need-returns-2 Inv-loop μ-loop
-returns-2 c number =
+returns-3 : tie.Need-returns-3 Inv-loop μ-loop
+returns-3 c number =
     let at = c .before in
-    let s = at .before .args .s .now in
+    let s = at .before .before .before .before .args .s .now in
     let i = at .loop .i in
-    rw (eq-eqb i (length s) (omega (arith, at .loop .inv .0, c .loop-test .left))) (at .loop .inv .1 number ∙ bad-nowhere number s i (c .loop-test .left))
+    rw (eq-eqb i (length s) (omega (arith, at .loop .inv .0, c .loop-test .left)))
+    (at .loop .inv .1 number ∙ bad-nowhere number s i (c .loop-test .left))
 
 pub first-bad-spec : {M : Type 1} → statement M
 first-bad-spec =
@@ -59,10 +51,12 @@ first-bad-spec =
     (tie.spec
     Inv-loop
     μ-loop
+    (λ c κs. search needs)
+    returns
     (λ c. (search needs, λ number. refl))
     (λ c. search needs)
-    returns
+    returns-2
     (λ c. search needs)
     (λ c. search needs)
     loop-again
-    returns-2)
+    returns-3)
