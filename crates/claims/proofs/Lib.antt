@@ -2,7 +2,9 @@
 -- In `Pairing`: doubled-checks, doubling-writes, doubled-reads, demand2, doubled-unseen. In `TwoRun`: demand3.
 pub mod Examples
 pub mod Gates
+pub mod Accepted
 pub mod Unchanged
+pub mod Verdicts
 pub mod Steps
 pub mod History
 pub mod Pairing

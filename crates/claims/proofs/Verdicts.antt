@@ -1,0 +1,97 @@
+-- Every verdict names the first protected output that is marked.
+use Prim.Native.Nat.{ℕ, zero, suc, _+_, _<_}
+use native.Mathlib.Nat.{zero-add}
+use native.Mathlib.Omega.{arith}
+use mathlib.Core.Path.{_≡_, refl, sym}
+use mathlib.Core.List.{List, [], _∷_}
+use mathlib.Core.Bool.{Bool, true, false, _&&_, cond}
+use lib.Dec.{eqb}
+use lib.ListN.{length, getD}
+use borrow.Author.Tests.{eqb-true, eq-eqb}
+use Rattle.gates.specs.Kinds.{OUT}
+use Rattle.gates.specs.Rules.{mark}
+use Rattle.netlist.specs.declared.image.Net.{Net}
+use Rattle.netlist.specs.Image.{net}
+use Rattle.tracker.specs.Cycle.{Verdict, clear, flow, verdictFrom, cycleOf}
+use Rattle.claims.specs.Verdicts.{MarkedOutput, Judged, none, lowest, Verdicts}
+
+-- the test of the definition, at a net with byte b
+abbrev test : Net → (b : ℕ) → Bool
+test x b = eqb (x .kind) OUT && eqb (x .b) 1 && mark b
+
+record Passed (x : Net) (b : ℕ) : Type 0 where
+  out : x .kind ≡ OUT
+  protected : x .b ≡ 1
+  marked : mark b ≡ true
+
+and-both : (p q : Bool) → (p && q) ≡ true → (p ≡ true) × (q ≡ true)
+and-both true q h = (refl, h)
+and-both false q h = (h, cc)
+
+passed : (x : Net) (b : ℕ) → test x b ≡ true → Passed x b
+passed x b h =
+    let t = and-both (eqb (x .kind) OUT && eqb (x .b) 1) (mark b) h in
+    let u = and-both (eqb (x .kind) OUT) (eqb (x .b) 1) (t .0) in
+    record { out = eqb-true _ _ (u .0); protected = eqb-true _ _ (u .1); marked = t .1 }
+
+not-passed : (x : Net) (b : ℕ) → test x b ≡ false → Passed x b → ⊥
+not-passed x b h p =
+    let e = rw (p .out, p .protected, p .marked) at h in
+    let z : _≡_ {A = Bool} true false = e in
+    let n : _≡_ {A = ℕ} 0 1 = cc in
+    omega arith
+
+-- the same, of the nets xs, the first of which is net i: j counts from there
+record From (i : ℕ) (xs : List Net) (bs : List ℕ) (j : ℕ) : Type 0 where
+  below : j < length xs
+  here : Passed (getD xs j (net 0 0 0 0)) (getD bs (i + j) 0)
+
+data JudgedFrom (i : ℕ) (xs : List Net) (bs : List ℕ) : Verdict → Type 0 where
+  none-from : ((j : ℕ) → From i xs bs j → ⊥) → JudgedFrom i xs bs clear
+  lowest-from : (j : ℕ) {n : ℕ} → n ≡ i + j → From i xs bs j → ((k : ℕ) → k < j → From i xs bs k → ⊥) → JudgedFrom i xs bs (flow n)
+
+-- one net before the others
+later : {i : ℕ} {x : Net} {xs : List Net} {bs : List ℕ} (j : ℕ) → From i (x ∷ xs) bs (suc j) → From (suc i) xs bs j
+later {i} j f = let e : i + suc j ≡ suc i + j = omega arith in record { below = omega (arith, f .below); here = rw e at (f .here) }
+
+sooner : {i : ℕ} {x : Net} {xs : List Net} {bs : List ℕ} (j : ℕ) → From (suc i) xs bs j → From i (x ∷ xs) bs (suc j)
+sooner {i} j f = let e : suc i + j ≡ i + suc j = omega arith in record { below = omega (arith, f .below); here = rw e at (f .here) }
+
+over : {i : ℕ} {x : Net} {xs : List Net} {bs : List ℕ} {v : Verdict} → test x (getD bs i 0) ≡ false → JudgedFrom (suc i) xs bs v → JudgedFrom i (x ∷ xs) bs v
+over {i} {x} {xs} {bs} h (none-from f) = none-from all
+  where
+    all : (j : ℕ) → From i (x ∷ xs) bs j → ⊥
+    all zero g = let e : i + 0 ≡ i = omega arith in not-passed x _ h (rw e at (g .here))
+    all (suc j) g = f j (later j g)
+over {i} {x} {xs} {bs} h (lowest-from j {n} e g f) = lowest-from (suc j) {n = n} (omega arith) (sooner j g) all
+  where
+    all : (k : ℕ) → k < suc j → From i (x ∷ xs) bs k → ⊥
+    all zero l g = let e : i + 0 ≡ i = omega arith in not-passed x _ h (rw e at (g .here))
+    all (suc k) l g = f k (omega arith) (later k g)
+
+step : (i : ℕ) (x : Net) (xs : List Net) (bs : List ℕ) {v : Verdict} (t : Bool) → test x (getD bs i 0) ≡ t → JudgedFrom (suc i) xs bs v
+    → JudgedFrom i (x ∷ xs) bs (cond t (flow i) v)
+step i x xs bs true h rest =
+    let e : i + 0 ≡ i = omega arith in
+    lowest-from 0 (sym e) (record { below = omega arith; here = rw e (passed x _ h) }) (λ k l g. absurd (omega arith))
+step i x xs bs false h rest = over h rest
+
+judged-from : (i : ℕ) (xs : List Net) (bs : List ℕ) → JudgedFrom i xs bs (verdictFrom i xs bs)
+unfolding verdictFrom
+judged-from i [] bs = none-from (λ j f. absurd (omega (arith, f .below)))
+judged-from i (x ∷ xs) bs = step i x xs bs (test x (getD bs i 0)) refl (judged-from (suc i) xs bs)
+
+-- from net 0 on
+output : {xs : List Net} {bs : List ℕ} (j : ℕ) → From 0 xs bs j → MarkedOutput xs bs j
+output j f = let p = rw zero-add at (f .here) in record { below = f .below; out = p .out; protected = p .protected; marked = p .marked }
+
+from-output : {xs : List Net} {bs : List ℕ} (j : ℕ) → MarkedOutput xs bs j → From 0 xs bs j
+from-output j m = record { below = m .below; here = rw zero-add (record { out = m .out; protected = m .protected; marked = m .marked }) }
+
+judged : {xs : List Net} {bs : List ℕ} {v : Verdict} → JudgedFrom 0 xs bs v → Judged xs bs v
+judged (none-from f) = none (λ i m. f i (from-output i m))
+judged (lowest-from j {n} e g f) = let h : n ≡ j = omega arith in rw h (lowest (output j g) (λ k l m. f k l (from-output k m)))
+
+pub verdicts : Verdicts
+unfolding cycleOf
+verdicts xs row state = judged (judged-from 0 xs _)

@@ -1,0 +1,40 @@
+-- When a call is accepted: exactly if no line of document 01's table of refusals applies.
+use Prim.Native.Nat.{ℕ, _+_, _*_, _≤_, _<_}
+use mathlib.Core.Logic.{_↔_}
+use mathlib.Core.Path.{_≡_}
+use mathlib.Core.List.{List}
+use mathlib.Core.Option.{none}
+use lib.ListN.{length, getD}
+use Rattle.netlist.specs.Image.{sizesOf, netsOf}
+use Rattle.netlist.specs.Check.{checkRefusal}
+use Rattle.tracker.specs.Calls.{powerUpRefusal, stepRefusal, runRefusal}
+use Rattle.doubling.specs.Doubled.{doubledSize, doubleRefusal}
+
+-- no byte is above 3
+abbrev pub Codes : List ℕ → Type 0
+Codes xs = (i : ℕ) → i < length xs → getD xs i 0 ≤ 3
+
+-- none of 1 to 8 applies
+abbrev pub Image : List ℕ → Type 0
+Image s = checkRefusal s ≡ none
+
+-- neither 10 nor 11 applies
+pub record State (s st : List ℕ) : Type 0 where
+  pub size : length st ≡ sizesOf s .registers
+  pub codes : Codes st
+
+-- neither 12 nor 13 applies, with n row bytes wanted
+pub record Rows (n : ℕ) (rows : List ℕ) : Type 0 where
+  pub size : length rows ≡ n
+  pub codes : Codes rows
+
+-- proved as `accepted`
+pub record Accepted : Type 0 where
+  pub power-up : (s st : List ℕ) → (powerUpRefusal s st ≡ none) ↔ (Image s × (length st ≡ sizesOf s .registers))
+  pub step : (s st row nets : List ℕ)
+      → (stepRefusal s st row nets ≡ none) ↔ (Image s × State s st × Rows (sizesOf s .inputs) row × (length nets ≡ sizesOf s .nets))
+  pub run : (s st : List ℕ) (k : ℕ) (rows outputs : List ℕ)
+      → (runRefusal s st k rows outputs ≡ none)
+      ↔ (Image s × (k ≤ 4096) × State s st × Rows (k * sizesOf s .inputs) rows × (length outputs ≡ k * sizesOf s .outputs))
+  pub double : (s buf : List ℕ)
+      → (doubleRefusal s buf ≡ none) ↔ (Image s × (doubledSize (netsOf s) ≤ 8192) × (length buf ≡ 8 + 7 * doubledSize (netsOf s)))

@@ -1,0 +1,27 @@
+-- Every verdict names the first protected output that is marked, or is clear when none is.
+use Prim.Native.Nat.{ℕ, _<_}
+use mathlib.Core.Path.{_≡_}
+use mathlib.Core.List.{List}
+use mathlib.Core.Bool.{true}
+use lib.ListN.{length, getD}
+use Rattle.gates.specs.Kinds.{OUT}
+use Rattle.gates.specs.Rules.{mark}
+use Rattle.netlist.specs.declared.image.Net.{Net}
+use Rattle.netlist.specs.Image.{net}
+use Rattle.tracker.specs.Cycle.{Verdict, clear, flow, cycleOf}
+
+-- net i is a protected OUT with mark 1, by the bytes bs of all nets
+pub record MarkedOutput (xs : List Net) (bs : List ℕ) (i : ℕ) : Type 0 where
+  pub below : i < length xs
+  pub out : getD xs i (net 0 0 0 0) .kind ≡ OUT
+  pub protected : getD xs i (net 0 0 0 0) .b ≡ 1
+  pub marked : mark (getD bs i 0) ≡ true
+
+-- clear where there is none, and else a flow that carries the lowest
+pub data Judged (xs : List Net) (bs : List ℕ) : Verdict → Type 0 where
+  none : ((i : ℕ) → MarkedOutput xs bs i → ⊥) → Judged xs bs clear
+  lowest : {i : ℕ} → MarkedOutput xs bs i → ((j : ℕ) → j < i → MarkedOutput xs bs j → ⊥) → Judged xs bs (flow i)
+
+-- proved as `verdicts`
+abbrev pub Verdicts : Type 0
+Verdicts = (xs : List Net) (row state : List ℕ) → Judged xs (cycleOf xs row state .bytes) (cycleOf xs row state .verdict)
