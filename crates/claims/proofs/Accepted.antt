@@ -1,10 +1,8 @@
 -- When a call is accepted.
-use Prim.Native.Nat.{ℕ, zero, suc, _≤_, _<_}
+use Prim.Native.Nat.{ℕ, suc, _≤_}
 use native.Mathlib.Omega.{arith}
-use mathlib.Core.Logic.{_↔_}
 use mathlib.Core.List.{List, [], _∷_, Forall₂·nil, Forall₂·cons}
 use lib.Dec.{lit≤}
-use lib.ListN.{length, getD}
 use Rattle.netlist.proofs.Pairs.{pairs-getD}
 use Rattle.netlist.proofs.Refusals.{Codes}
 use Rattle.netlist.proofs.Checked.{check-none}

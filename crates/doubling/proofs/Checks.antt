@@ -4,7 +4,7 @@ use mathlib.Core.Logic.{_↔_}
 use mathlib.Core.Path.{_≡_, refl, ap, sym, _∙_}
 use mathlib.Core.List.{List, [], _∷_, _++_}
 use mathlib.Core.Option.{none, some}
-use mathlib.Core.Bool.{Bool, true, false, cond}
+use mathlib.Core.Bool.{cond}
 use native.Mathlib.Omega.{arith}
 use lib.Dec.{eqb}
 use lib.ListN.{length}
@@ -12,7 +12,7 @@ use Rattle.netlist.specs.declared.image.Net.{Net}
 use Rattle.netlist.specs.Image.{sizesOf, netsOf, count}
 use Rattle.netlist.specs.declared.answer.Refusal.{Refusal}
 use Rattle.netlist.proofs.Refusals.{accepted}
-use Rattle.netlist.proofs.Checked.{Passes, is-const, is-input, is-reg, is-not, is-and, is-or, is-xor, is-mux, is-out, AllPass, nil, cons, Checked, check-none, length-nets}
+use Rattle.netlist.proofs.Checked.{Passes, is-const, is-input, is-reg, is-not, is-and, is-or, is-xor, is-mux, is-out, AllPass, nil, cons, Checked, check-none, length-nets, count-most}
 use Rattle.netlist.proofs.Encoding.{encode-length, sizes-back, nets-back, Bytes, encode-bytes}
 use Rattle.doubling.specs.Doubled.{doubledSize, valueNet, markNet, groupOf, groupAt, groupsFrom, doubledNets, doubledImage, doubleRefusal, doubleOf}
 use Rattle.doubling.proofs.Positions.{two-or-more, doubled-length, doubled-passes}
@@ -50,15 +50,6 @@ groups-count xs {k = k} {i = i} c (cons {x = y} {xs = ys} p ps) =
 doubled-count : {xs : List Net} {k n : ℕ} → Counted k → AllPass n 0 xs → count k (doubledNets xs) ≡ 2 * count k xs
 unfolding doubledNets
 doubled-count {xs} c ps = groups-count xs c ps
-
-count-le : (k : ℕ) (xs : List Net) → count k xs ≤ length xs
-unfolding count
-count-le k [] = omega arith
-count-le k (x ∷ xs) = one (eqb (x .kind) k) (count-le k xs)
-  where
-    one : (c : Bool) {m n : ℕ} → m ≤ n → cond c 1 0 + m ≤ suc n
-    one true h = omega arith
-    one false h = omega arith
 
 size-positive : {n i : ℕ} {xs : List Net} → AllPass n i xs → 0 < length xs → 0 < doubledSize xs
 unfolding doubledSize
@@ -103,9 +94,9 @@ doubled-bytes s c h =
     let l = doubled-length xs in
     encode-bytes h (omega arith) (doubled-passes (c .nets) (sym (length-nets s)))
     (omega arith)
-    (omega (arith, c .inputs, doubled-count c-in (c .nets), count-le 1 (doubledNets xs)))
-    (omega (arith, c .registers, doubled-count c-reg (c .nets), count-le 2 (doubledNets xs)))
-    (omega (arith, c .outputs, doubled-count c-out (c .nets), count-le 8 (doubledNets xs)))
+    (omega (arith, c .inputs, doubled-count c-in (c .nets), count-most 1 (doubledNets xs)))
+    (omega (arith, c .registers, doubled-count c-reg (c .nets), count-most 2 (doubledNets xs)))
+    (omega (arith, c .outputs, doubled-count c-out (c .nets), count-most 8 (doubledNets xs)))
 
 -- DOUBLING
 pub double-none : (s buf : List ℕ) → (doubleRefusal s buf ≡ none) ↔ (Checked s × (doubledSize (netsOf s) ≤ 8192) × (length buf ≡ 8 + 7 * doubledSize (netsOf s)))

@@ -168,7 +168,7 @@ module _ {s : List ℕ} {n : ℕ} (c : Checked s) (e : n ≡ sizesOf s .nets) wh
       this (cons p ps) = p
 
 -- there are at most 8,192 nets of a kind
-count-most : (k : ℕ) (xs : List Net) → count k xs ≤ length xs
+pub count-most : (k : ℕ) (xs : List Net) → count k xs ≤ length xs
 unfolding count
 count-most k [] = omega arith
 count-most k (x ∷ xs) = one (eqb (x .kind) k) (count-most k xs)

@@ -2,16 +2,15 @@
 use Prim.Native.Nat.{ℕ, suc, _+_, _≤_, _<_}
 use native.Mathlib.Numerals.{add-one}
 use native.Mathlib.Omega.{arith}
-use mathlib.Core.Path.{_≡_, refl, sym, ap, _∙_}
-use mathlib.Core.List.{List, [], _∷_, _++_, Forall₂·nil}
+use mathlib.Core.Path.{_≡_, sym, _∙_}
+use mathlib.Core.List.{List, Forall₂·nil}
 use mathlib.Core.Bool.{cond}
 use lib.Dec.{eqb, lit≤}
-use lib.ListN.{length, getD, take, drop, set, length-set}
+use lib.ListN.{length, getD, set, length-set}
 use lib.Seq.{getD-take, getD-set-other, take-suc-set, take-all, drop-drop}
 use Rattle.gates.specs.Kinds.{INPUT, REG}
 use Rattle.gates.specs.Rules.{gateByte}
 use Rattle.gates.proofs.Laws.{Code}
-use Rattle.netlist.specs.declared.image.Net.{Net}
 use Rattle.netlist.specs.Image.{sizesOf, kindAt, netAt, netsOf, count}
 use Rattle.netlist.proofs.Pairs.{pairs-getD}
 use Rattle.netlist.proofs.Nets.{netsLeft, nets-next, nets-done, nets-left}

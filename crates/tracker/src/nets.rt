@@ -86,6 +86,7 @@ pub fn work_out(image: &[u8], n: usize, t: &[u8; 576], row: &[u8], state: &[u8],
     requires { ⌜ n ≡ sizesOf (now image) .nets ⌝ }
     ensures { λ r. ⌜ now (nets .exit) ≡ bytesOf gateByte (netsOf (now (image .entry))) (now (row .entry)) (now (state .entry)) ⌝ }
 {
+    // An OUT reads its policy, 0 or 1, as if it were a pin. So net 1 holds a code before it is worked out.
     if 1 < n {
         nets[1] = 0;
     }

@@ -1,7 +1,6 @@
 -- `tracker::lowest::bounds_of` meets its contract.
 use mathlib.Core.Path.{_≡_, ap}
 use native.Mathlib.Omega.{arith}
-use borrow.Author.Needs.{needs}
 use Rattle.netlist.specs.declared.image.Sizes.{Sizes}
 use Rattle.netlist.specs.Image.{sizesOf}
 use Rattle.netlist.proofs.Checked.{Checked, check-none}

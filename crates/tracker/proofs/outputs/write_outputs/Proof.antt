@@ -1,5 +1,5 @@
 -- `tracker::outputs::write_outputs` meets its contract. At net i, the bytes of the OUTs below it stand in the buffer, and those of the others are left.
-use Prim.Native.Nat.{ℕ, _+_, _-_, _≤_, _<_}
+use Prim.Native.Nat.{_+_, _-_, _≤_}
 use native.Mathlib.Omega.{arith}
 use mathlib.Core.Logic.{⊎-elim}
 use mathlib.Core.Path.{_≡_, sym, _∙_}

@@ -1,5 +1,4 @@
 -- `tracker::refusing::codes_refusal` meets its contract: the length is tried before the bytes.
-use mathlib.Core.Path.{_≡_, _∙_}
 use borrow.Author.Needs.{needs}
 use borrow.Author.Tests.{eq-eqb, ne-eqb}
 use lib.ListN.{length}

@@ -1,5 +1,5 @@
 -- `tracker::registers::clock` meets its contract. At net i, the new bytes of the registers below it stand in the state, and those of the others are left.
-use Prim.Native.Nat.{ℕ, _+_, _-_, _≤_, _<_}
+use Prim.Native.Nat.{ℕ, _+_, _-_, _≤_}
 use native.Mathlib.Omega.{arith}
 use mathlib.Core.Logic.{⊎-elim}
 use mathlib.Core.Path.{_≡_, sym, _∙_}

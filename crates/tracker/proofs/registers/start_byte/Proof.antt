@@ -1,5 +1,4 @@
 -- `tracker::registers::start_byte` meets its contract.
-use borrow.Author.Needs.{needs}
 use borrow.Author.Tests.{eq-eqb, ne-eqb}
 use Rattle.tracker.specs.Calls.{start}
 use Rattle.tracker.proofs.registers.start_byte.Statement.{statement}

@@ -1,10 +1,9 @@
 -- `tracker::running::cycles` meets its contract. At cycle c, what is left of the run gives the whole answer, the last state and all outputs.
-use Prim.Native.Nat.{ℕ, suc, _+_, _-_, _*_, _^_, _≤_, _<_}
+use Prim.Native.Nat.{suc, _+_, _-_, _*_, _^_, _≤_, _<_}
 use native.Mathlib.Numerals.{add-one}
 use native.Mathlib.Omega.{arith}
 use mathlib.Core.Path.{_≡_, refl, sym, ap, _∙_}
 use mathlib.Core.List.{_++_}
-use mathlib.Core.Option.{none}
 use lib.ListN.{length, take, drop, length-append, length-drop}
 use lib.Seq.{length-take-le}
 use borrow.Author.Needs.{needs}
@@ -12,7 +11,7 @@ use borrow.Rule.Slice.PartMut.{post-is}
 use Rattle.gates.specs.Kinds.{INPUT, OUT}
 use Rattle.netlist.specs.declared.image.Sizes.{Sizes}
 use Rattle.netlist.specs.Image.{sizesOf}
-use Rattle.netlist.proofs.Checked.{Checked, check-none, few-of}
+use Rattle.netlist.proofs.Checked.{check-none, few-of}
 use Rattle.tracker.specs.Answers.{firstFlowIn}
 use Rattle.tracker.proofs.Calls.{Ready, step-none, run-none, run-accepted}
 use Rattle.tracker.proofs.Runs.{product-fits, Running, run-begins, all-outputs, row-fits, row-ready, outputs-fit, run-goes-on, run-ends}

@@ -1,5 +1,5 @@
 -- `tracker::running::run` meets its contract: a refusal leaves the state and the outputs, and else the cycles are run.
-use mathlib.Core.Path.{_≡_, sym, ap, _∙_}
+use mathlib.Core.Path.{sym, ap, _∙_}
 use borrow.Author.Needs.{needs}
 use Rattle.netlist.specs.Check.{refusalIn}
 use Rattle.tracker.proofs.Calls.{run-refused}

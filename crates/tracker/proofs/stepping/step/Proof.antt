@@ -1,5 +1,4 @@
 -- `tracker::stepping::step` meets its contract: a refusal leaves the state and the net bytes, and else they are those of the cycle.
-use Prim.Native.Nat.{_≤_}
 use mathlib.Core.Path.{_≡_, sym, ap, _∙_}
 use mathlib.Core.Option.{none}
 use lib.ListN.{length}

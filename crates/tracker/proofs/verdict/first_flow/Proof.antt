@@ -1,5 +1,5 @@
 -- `tracker::verdict::first_flow` meets its contract: a flow stays, and a clear verdict leaves what comes later.
-use mathlib.Core.Path.{_≡_, sym, ap, _∙_}
+use mathlib.Core.Path.{sym, ap, _∙_}
 use borrow.Author.Needs.{needs}
 use Rattle.tracker.specs.Answers.{verdictIn}
 use Rattle.tracker.specs.Cycle.{firstOf}
