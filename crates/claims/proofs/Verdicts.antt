@@ -1,9 +1,9 @@
--- Every verdict names the first protected output that is marked.
+-- Every verdict names the first protected output that is marked, and a run's answer the first flow of its cycles.
 use Prim.Native.Nat.{ℕ, zero, suc, _+_, _<_}
 use native.Mathlib.Nat.{zero-add}
 use native.Mathlib.Omega.{arith}
 use mathlib.Core.Path.{_≡_, refl, sym}
-use mathlib.Core.List.{List, [], _∷_}
+use mathlib.Core.List.{List, [], _∷_, map}
 use mathlib.Core.Bool.{Bool, true, false, _&&_, cond}
 use lib.Dec.{eqb}
 use lib.ListN.{length, getD}
@@ -12,8 +12,8 @@ use Rattle.gates.specs.Kinds.{OUT}
 use Rattle.gates.specs.Rules.{mark}
 use Rattle.netlist.specs.declared.image.Net.{Net}
 use Rattle.netlist.specs.Image.{net}
-use Rattle.tracker.specs.Cycle.{Verdict, clear, flow, verdictFrom, cycleOf}
-use Rattle.claims.specs.Verdicts.{MarkedOutput, Judged, none, lowest, Verdicts}
+use Rattle.tracker.specs.Cycle.{Verdict, clear, flow, verdictFrom, Cycle, cycleOf, FirstFlow, firstOf, firstFlow}
+use Rattle.claims.specs.Verdicts.{MarkedOutput, Judged, none, lowest, Verdicts, First, all-clear, first, FirstFlows}
 
 -- the test of the definition, at a net with byte b
 abbrev test : Net → (b : ℕ) → Bool
@@ -95,3 +95,40 @@ judged (lowest-from j {n} e g f) = let h : n ≡ j = omega arith in rw h (lowest
 pub verdicts : Verdicts
 unfolding cycleOf
 verdicts xs row state = judged (judged-from 0 xs _)
+
+-- THE FIRST FLOW, among verdicts of which the first is that of cycle i: c counts from there
+data FirstFrom (i : ℕ) (vs : List Verdict) : FirstFlow → Type 0 where
+  clear-from : {k : ℕ} → k ≡ i + length vs → ((c : ℕ) → c < length vs → getD vs c clear ≡ clear) → FirstFrom i vs (record { cycle = k; verdict = clear })
+  flow-from :
+      (c : ℕ) {k n : ℕ} → k ≡ i + c → c < length vs → getD vs c clear ≡ flow n → ((d : ℕ) → d < c → getD vs d clear ≡ clear)
+      → FirstFrom i vs (record { cycle = k; verdict = flow n })
+
+-- one cycle before the others
+after-clear : {i : ℕ} {vs : List Verdict} {f : FirstFlow} → FirstFrom (suc i) vs f → FirstFrom i (clear ∷ vs) f
+after-clear {i} {vs} (clear-from {k} e h) = clear-from {k = k} (omega arith) all
+  where
+    all : (c : ℕ) → c < suc (length vs) → getD (clear ∷ vs) c clear ≡ clear
+    all zero l = refl
+    all (suc c) l = h c (omega arith)
+after-clear {i} {vs} (flow-from c {k} {n} e l g h) = flow-from (suc c) {k = k} {n = n} (omega arith) (omega arith) g all
+  where
+    all : (d : ℕ) → d < suc c → getD (clear ∷ vs) d clear ≡ clear
+    all zero m = refl
+    all (suc d) m = h d (omega arith)
+
+first-step : (i : ℕ) (v : Verdict) {vs : List Verdict} {f : FirstFlow} → FirstFrom (suc i) vs f → FirstFrom i (v ∷ vs) (firstOf i v f)
+unfolding firstOf
+first-step i clear r = after-clear r
+first-step i (flow n) r = flow-from 0 {k = i} {n = n} (omega arith) (omega arith) refl (λ d l. absurd (omega arith))
+
+first-from : (i : ℕ) (cs : List Cycle) → FirstFrom i (map (λ c. c .verdict) cs) (firstFlow i cs)
+unfolding firstFlow
+first-from i [] = clear-from {k = i} (omega arith) (λ c l. absurd (omega arith))
+first-from i (c ∷ cs) = first-step i (c .verdict) (first-from (suc i) cs)
+
+first-of : {vs : List Verdict} {f : FirstFlow} → FirstFrom 0 vs f → First vs f
+first-of {vs} (clear-from {k} e h) = let z : k ≡ length vs = omega arith in rw z (all-clear h)
+first-of (flow-from c {k} {n} e l g h) = let z : k ≡ c = omega arith in rw z (first l g h)
+
+pub first-flows : FirstFlows
+first-flows cs = first-of (first-from 0 cs)

@@ -1,4 +1,5 @@
--- When a call is accepted: exactly if no line of document 01's table of refusals applies.
+-- When a call is accepted: exactly if checking accepts its image, and K, the state, the rows and the buffer have the lengths and bytes that 9 to 16 ask for.
+-- Which images checking accepts is said by `checkRefusal`; numbers, places and the order of refusals are not said here.
 use Prim.Native.Nat.{ℕ, _+_, _*_, _≤_, _<_}
 use mathlib.Core.Logic.{_↔_}
 use mathlib.Core.Path.{_≡_}

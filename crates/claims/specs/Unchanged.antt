@@ -1,4 +1,4 @@
--- A call that turns back changes no lent byte, doubling neither: 17, which would set its buffer to 0, is never given.
+-- A call that turns back changes no lent byte, nor does doubling: 17, which would set its buffer to 0, is never given.
 use Prim.Native.Nat.{ℕ}
 use mathlib.Core.Path.{_≡_}
 use mathlib.Core.List.{List}

@@ -1,14 +1,14 @@
--- Every verdict names the first protected output that is marked, or is clear when none is.
+-- Every verdict names the first protected output that is marked, or is clear when none is; and a run answers with the first flow of its cycles.
 use Prim.Native.Nat.{ℕ, _<_}
 use mathlib.Core.Path.{_≡_}
-use mathlib.Core.List.{List}
+use mathlib.Core.List.{List, map}
 use mathlib.Core.Bool.{true}
 use lib.ListN.{length, getD}
 use Rattle.gates.specs.Kinds.{OUT}
 use Rattle.gates.specs.Rules.{mark}
 use Rattle.netlist.specs.declared.image.Net.{Net}
 use Rattle.netlist.specs.Image.{net}
-use Rattle.tracker.specs.Cycle.{Verdict, clear, flow, cycleOf}
+use Rattle.tracker.specs.Cycle.{Verdict, clear, flow, Cycle, cycleOf, FirstFlow, firstFlow}
 
 -- net i is a protected OUT with mark 1, by the bytes bs of all nets
 pub record MarkedOutput (xs : List Net) (bs : List ℕ) (i : ℕ) : Type 0 where
@@ -25,3 +25,12 @@ pub data Judged (xs : List Net) (bs : List ℕ) : Verdict → Type 0 where
 -- proved as `verdicts`
 abbrev pub Verdicts : Type 0
 Verdicts = (xs : List Net) (row state : List ℕ) → Judged xs (cycleOf xs row state .bytes) (cycleOf xs row state .verdict)
+
+-- the first flow among verdicts, one a cycle: clear with the number of cycles where all are clear, and else the first cycle with a flow, and that flow
+pub data First (vs : List Verdict) : FirstFlow → Type 0 where
+  all-clear : ((c : ℕ) → c < length vs → getD vs c clear ≡ clear) → First vs (record { cycle = length vs; verdict = clear })
+  first : {c n : ℕ} → c < length vs → getD vs c clear ≡ flow n → ((d : ℕ) → d < c → getD vs d clear ≡ clear) → First vs (record { cycle = c; verdict = flow n })
+
+-- proved as `first-flows`
+abbrev pub FirstFlows : Type 0
+FirstFlows = (cs : List Cycle) → First (map (λ c. c .verdict) cs) (firstFlow 0 cs)

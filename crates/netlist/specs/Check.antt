@@ -84,7 +84,7 @@ checkRefusal s =
     then netsRefusal (sizesOf s .nets) 0 (netsOf s)
     then refuse (wrongCounts s) 8 0
 
--- the refusal at the index of the first byte above 3 in a list, the first of which has index i
+-- For calls on lent bytes: the refusal at the index of the first byte above 3 in a list, the first of which has index i
 unfoldable pub badByte : (number i : ℕ) → List ℕ → Option Refusal
 badByte number i [] = none
 badByte number i (x ∷ xs) = refuse (ltb 3 x) number i then badByte number (suc i) xs

@@ -1,4 +1,4 @@
--- What each public call on an image s and a state st answers, and what it leaves in every lent buffer. A refusal leaves each as it was.
+-- What each public call of this crate, on an image s and a state st, answers, and what it leaves in every lent buffer. A refusal leaves each as it was.
 use Prim.Native.Nat.{ℕ, _*_}
 use mathlib.Core.List.{List}
 use mathlib.Core.Option.{Option, none, some}
@@ -15,7 +15,7 @@ pub data Answer (A : Type 0) : Type 0 where
   done : A → Answer A
   refused : Refusal → Answer A
 
--- the byte that a register powers up with, by its operand b: the start value, or 0 where none is given, with mark 0
+-- the byte that a register powers up with, by its operand b, which is 0, 1, or 2 for none given: the start value, or 0, with mark 0
 unfoldable pub start : ℕ → ℕ
 start b = cond (eqb b 1) 1 0
 
@@ -37,6 +37,15 @@ powerUpOf s st =
       | some r ↦ record { refusal = some r; state = st }
     ]
 
+-- 10 to 14, by the numbers of bytes that a call wants in the state, in its rows and in the buffer that it fills
+abbrev pub lentRefusal : (registers pins filled : ℕ) (st rows buffer : List ℕ) → Option Refusal
+lentRefusal registers pins filled st rows buffer =
+    badLength 10 registers st
+    then badByte 11 0 st
+    then badLength 12 pins rows
+    then badByte 13 0 rows
+    then badLength 14 filled buffer
+
 -- a step: its answer, the state, and the lent buffer of net bytes
 pub record Stepped : Type 0 where
   pub answer : Answer Verdict
@@ -50,11 +59,7 @@ asStep c = record { answer = done (c .verdict); state = c .state; nets = c .byte
 unfoldable pub stepRefusal : (s st row nets : List ℕ) → Option Refusal
 stepRefusal s st row nets =
     checkRefusal s
-    then badLength 10 (sizesOf s .registers) st
-    then badByte 11 0 st
-    then badLength 12 (sizesOf s .inputs) row
-    then badByte 13 0 row
-    then badLength 14 (sizesOf s .nets) nets
+    then lentRefusal (sizesOf s .registers) (sizesOf s .inputs) (sizesOf s .nets) st row nets
 
 unfoldable pub stepOf : (s st row nets : List ℕ) → Stepped
 stepOf s st row nets =
@@ -77,11 +82,7 @@ unfoldable pub runRefusal : (s st : List ℕ) (k : ℕ) (rows outputs : List ℕ
 runRefusal s st k rows outputs =
     checkRefusal s
     then refuse (ltb 4096 k) 9 0
-    then badLength 10 (sizesOf s .registers) st
-    then badByte 11 0 st
-    then badLength 12 (k * sizesOf s .inputs) rows
-    then badByte 13 0 rows
-    then badLength 14 (k * sizesOf s .outputs) outputs
+    then lentRefusal (sizesOf s .registers) (k * sizesOf s .inputs) (k * sizesOf s .outputs) st rows outputs
 
 unfoldable pub runOf : (s st : List ℕ) (k : ℕ) (rows outputs : List ℕ) → Ran
 runOf s st k rows outputs =

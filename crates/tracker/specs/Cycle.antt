@@ -18,11 +18,12 @@ pub record Walk : Type 0 where
   pub row : List ℕ
   pub state : List ℕ
 
--- what a pin reads
+-- what a pin reads: the byte of the net that it names. Checking sees to it that there is one; 0 stands in otherwise
 unfoldable pub pinByte : (bs : List ℕ) (p : ℕ) → ℕ
 pinByte bs p = getD bs p 0
 
--- the byte of a net: a CONST's value, the next row byte for an INPUT, the next state byte for a REG, and the rule for every other kind
+-- the byte of a net: a CONST's value, the next row byte for an INPUT, the next state byte for a REG, and the rule for every other kind.
+-- All three operands are read as pins; the rule does not look at one that is no pin, such as an OUT's policy
 unfoldable pub netByte : Rule → Net → Walk → ℕ
 netByte rule x w =
     cond (eqb (x .kind) CONST) (x .a)
@@ -99,22 +100,22 @@ unfoldable pub outputsOf : List Cycle → List ℕ
 outputsOf [] = []
 outputsOf (c ∷ cs) = c .outputs ++ outputsOf cs
 
--- the state after the last cycle
+-- the state after the last cycle, or st where there is none
 unfoldable pub stateAfter : (st : List ℕ) → List Cycle → List ℕ
-stateAfter state [] = state
-stateAfter state (c ∷ cs) = stateAfter (c .state) cs
+stateAfter st [] = st
+stateAfter st (c ∷ cs) = stateAfter (c .state) cs
 
--- the first flow with its cycle; a clear verdict has the number of cycles
+-- the first flow with its cycle; with a clear verdict the cycle is the number of cycles, K
 pub record FirstFlow : Type 0 where
   pub cycle : ℕ
   pub verdict : Verdict
 
--- the flow of cycle i, or else what comes later
-unfoldable pub firstOf : (i : ℕ) → Verdict → (later : FirstFlow) → FirstFlow
-firstOf i clear later = later
-firstOf i (flow n) later = record { cycle = i; verdict = flow n }
+-- the flow of cycle i, or otherwise another answer
+unfoldable pub firstOf : (i : ℕ) → Verdict → (otherwise : FirstFlow) → FirstFlow
+firstOf i clear otherwise = otherwise
+firstOf i (flow n) otherwise = record { cycle = i; verdict = flow n }
 
--- the first flow among cycles, the first of which is cycle i
+-- the first flow among cycles, the first of which is cycle i; clear, with the number that follows the last cycle, where there is none
 unfoldable pub firstFlow : (i : ℕ) → List Cycle → FirstFlow
 firstFlow i [] = record { cycle = i; verdict = clear }
 firstFlow i (c ∷ cs) = firstOf i (c .verdict) (firstFlow (suc i) cs)

@@ -1,4 +1,4 @@
--- What the passes of a cycle over the nets ask of the bytes that they read.
+-- Terms of the contracts between the tracker's own functions: what a pass over the nets asks of the bytes that it reads. No public call's contract uses them.
 use Prim.Native.Nat.{ℕ, _≤_, _<_}
 use mathlib.Core.Path.{_≡_}
 use mathlib.Core.List.{List}

@@ -13,11 +13,13 @@ pub struct FirstFlow {
     pub verdict: Verdict,
 }
 
+// What a step answers: the verdict of its cycle, or a refusal.
 pub enum StepAnswer {
     Done(Verdict),
     Refused(Refusal),
 }
 
+// What a run answers: its first flow, or a refusal.
 pub enum RunAnswer {
     Done(FirstFlow),
     Refused(Refusal),

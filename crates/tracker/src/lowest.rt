@@ -32,6 +32,7 @@ pub struct Bounds {
     pub regs: usize,
 }
 
+// The bounds of an accepted image.
 pub fn bounds_of(image: &[u8]) -> Bounds
     requires { ⌜ checkRefusal (now image) ≡ none ⌝ }
     ensures { λ r. ⌜ Bounded (now (image .entry)) r ⌝ }

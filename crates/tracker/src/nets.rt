@@ -26,7 +26,7 @@ struct Taken {
     registers: usize,
 }
 
-// Net i, where so many row bytes and state bytes are taken and all nets below it have their bytes.
+// The byte of net i. `inputs` row bytes and `registers` state bytes are taken already, and all nets below i have their bytes.
 fn net_byte(
     image: &[u8],
     n: usize,
@@ -86,7 +86,8 @@ pub fn work_out(image: &[u8], n: usize, t: &[u8; 576], row: &[u8], state: &[u8],
     requires { ⌜ n ≡ sizesOf (now image) .nets ⌝ }
     ensures { λ r. ⌜ now (nets .exit) ≡ bytesOf gateByte (netsOf (now (image .entry))) (now (row .entry)) (now (state .entry)) ⌝ }
 {
-    // An OUT reads its policy, 0 or 1, as if it were a pin. So net 1 holds a code before it is worked out.
+    // Operand b of an OUT is its policy, 0 or 1, and is read as if it were a pin. So an OUT at net 1 may read net 1 itself, which
+    // has to hold a byte 0 to 3; the code that is read for an OUT does not depend on it.
     if 1 < n {
         nets[1] = 0;
     }

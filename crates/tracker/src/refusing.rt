@@ -10,9 +10,9 @@ ghost use Prim.Native.Nat.{ℕ};
 ghost use lib.Dec.{eqb};
 ghost use lib.ListN.{length};
 ghost use Rattle.netlist.specs.Check.{refuse, _then_, refusalIn, badByte, badLength};
-ghost use Rattle.tracker.specs.Calls.{powerUpRefusal, stepRefusal, runRefusal};
+ghost use Rattle.tracker.specs.Calls.{powerUpRefusal, lentRefusal, stepRefusal, runRefusal};
 
-// Whether a byte is above 3. The pass does not end at such a byte, so that the compiler may test many bytes at once.
+// False only if no byte is above 3. The pass does not end at such a byte, so that the compiler may test many bytes at once.
 fn any_bad(s: &[u8]) -> bool
     ensures { λ r. ⌜ (r ≡ false → (number : ℕ) → badByte number 0 (now (s .entry)) ≡ none) ⌝ }
 {
@@ -42,41 +42,37 @@ fn first_bad(s: &[u8]) -> usize
     i
 }
 
-// The refusals of lent codes: a number where they are not n long, and the next where a byte is above 3.
+// Two refusals of a lent slice: `number` where it is not n bytes long, and else `next` at its first byte above 3.
 fn codes_refusal(number: u32, next: u32, n: usize, s: &[u8]) -> Outcome
     ensures { λ r. ⌜ refusalIn r ≡ (badLength number n (now (s .entry)) then badByte next 0 (now (s .entry))) ⌝ }
 {
-    let bad = first_bad(s);
     if s.len() != n {
         return refused(number, 0);
     }
+    let bad = first_bad(s);
     if bad != s.len() {
         return refused(next, bad);
     }
     Outcome::Done
 }
 
-// 10 to 14, by the lengths that are wanted.
+// 10 to 14, by the numbers of bytes that are wanted in the state, in the rows and in the buffer.
 fn lent_refusal(
     registers: usize,
-    inputs: usize,
+    pins: usize,
     filled: usize,
     state: &[u8],
     rows: &[u8],
     buffer: &[u8],
 ) -> Outcome
     ensures { λ r. ⌜ refusalIn r
-        ≡ (badLength 10 registers (now (state .entry))
-        then badByte 11 0 (now (state .entry))
-        then badLength 12 inputs (now (rows .entry))
-        then badByte 13 0 (now (rows .entry))
-        then badLength 14 filled (now (buffer .entry))) ⌝ }
+        ≡ lentRefusal registers pins filled (now (state .entry)) (now (rows .entry)) (now (buffer .entry)) ⌝ }
 {
     let o = codes_refusal(10, 11, registers, state);
     if let Outcome::Refused(r) = o {
         return Outcome::Refused(r);
     }
-    let p = codes_refusal(12, 13, inputs, rows);
+    let p = codes_refusal(12, 13, pins, rows);
     if let Outcome::Refused(r) = p {
         return Outcome::Refused(r);
     }
@@ -86,7 +82,7 @@ fn lent_refusal(
     Outcome::Done
 }
 
-// 1 to 8 and 10.
+// Power-up: 1 to 8 and 10.
 pub fn power_up_refusal(image: &[u8], state: &[u8]) -> Outcome
     ensures { λ r. ⌜ refusalIn r ≡ powerUpRefusal (now (image .entry)) (now (state .entry)) ⌝ }
 {
@@ -101,7 +97,7 @@ pub fn power_up_refusal(image: &[u8], state: &[u8]) -> Outcome
     Outcome::Done
 }
 
-// 1 to 8 and 10 to 14.
+// A step: 1 to 8 and 10 to 14.
 pub fn step_refusal(image: &[u8], state: &[u8], row: &[u8], nets: &[u8]) -> Outcome
     ensures { λ r. ⌜ refusalIn r ≡ stepRefusal (now (image .entry)) (now (state .entry)) (now (row .entry)) (now (nets .entry)) ⌝ }
 {
@@ -113,7 +109,7 @@ pub fn step_refusal(image: &[u8], state: &[u8], row: &[u8], nets: &[u8]) -> Outc
     lent_refusal(z.registers, z.inputs, z.nets, state, row, nets)
 }
 
-// 1 to 14. The number of cycles is tested before anything is multiplied by it.
+// A run: 1 to 14. The number of cycles is tested before anything is multiplied by it.
 pub fn run_refusal(image: &[u8], k: usize, state: &[u8], rows: &[u8], outputs: &[u8]) -> Outcome
     ensures { λ r. ⌜ refusalIn r ≡ runRefusal (now (image .entry)) (now (state .entry)) k (now (rows .entry)) (now (outputs .entry)) ⌝ }
 {

@@ -22,7 +22,8 @@ ghost use Rattle.tracker.specs.Cycle.{cycleOf, firstOf};
 ghost use Rattle.tracker.specs.Calls.{stepRefusal, runRefusal, runOf};
 ghost use Rattle.tracker.specs.Passes.{Bounded};
 
-// Cycle c of a run: all nets are worked out, then the verdict is given, the outputs are written, and then the registers are clocked.
+// Cycle c of a run: all nets are worked out, then the verdict is given, unless an earlier cycle had a flow; the outputs are written, and
+// then the registers are clocked.
 fn cycle(
     image: &[u8],
     bounds: Bounds,
@@ -90,7 +91,7 @@ fn cycles(image: &[u8], k: usize, state: &mut [u8], rows: &[u8], outputs: &mut [
     first
 }
 
-// K cycles on K × I row bytes: it fills K × O output bytes, leaves the last state, and answers with the first flow.
+// K cycles on K × I row bytes: it fills K × O output bytes, leaves the last state, and answers with the first flow. It turns back with 1 to 14.
 pub fn run(image: &[u8], k: usize, state: &mut [u8], rows: &[u8], outputs: &mut [u8]) -> RunAnswer
     ensures { λ r. ⌜ ran r (now (state .exit)) (now (outputs .exit))
         ≡ runOf (now (image .entry)) (now (state .entry)) k (now (rows .entry)) (now (outputs .entry)) ⌝ }

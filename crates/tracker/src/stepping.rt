@@ -11,7 +11,7 @@ ghost use mathlib.Core.Path.{_≡_};
 ghost use Rattle.tracker.specs.Answers.{stepped};
 ghost use Rattle.tracker.specs.Calls.{stepOf};
 
-// One cycle on a row of I bytes: it fills N net bytes, answers with the verdict, and then clocks the state.
+// One cycle on a row of I bytes: it fills N net bytes, answers with the verdict, and then clocks the state. It turns back with 1 to 8 and 10 to 14.
 pub fn step(image: &[u8], state: &mut [u8], row: &[u8], nets: &mut [u8]) -> StepAnswer
     ensures { λ r. ⌜ stepped r (now (state .exit)) (now (nets .exit))
         ≡ stepOf (now (image .entry)) (now (state .entry)) (now (row .entry)) (now (nets .entry)) ⌝ }

@@ -50,7 +50,7 @@ pub fn verdict_of(image: &[u8], n: usize, from: usize, nets: &[u8]) -> Verdict
     }
 }
 
-// The first flow after cycle c: an earlier one stays, and else the verdict of the cycle decides.
+// The first flow of cycles 0 to c. `earlier` is that of the cycles before c: it stays where it is a flow, and else the verdict of cycle c decides.
 pub fn first_flow(
     earlier: FirstFlow,
     c: usize,

@@ -8,37 +8,30 @@ use borrow.Author.Tests.{eq-eqb, ne-eqb}
 use Rattle.netlist.specs.declared.answer.Refusal.{Refusal}
 use Rattle.netlist.specs.Check.{refusalIn, _then_, badByte, badLength}
 use Rattle.netlist.proofs.Refusals.{then-assoc}
+use Rattle.tracker.specs.Calls.{lentRefusal}
 use Rattle.tracker.proofs.refusing.lent_refusal.Statement.{statement}
 use Rattle.tracker.proofs.refusing.lent_refusal.Tie as tie
 
 -- the chain, in three parts
-module _ (registers inputs filled : ℕ) (state rows buffer : List ℕ) where
+module _ (registers pins filled : ℕ) (state rows buffer : List ℕ) where
   abbrev ofState : Option Refusal
   ofState = badLength 10 registers state then badByte 11 0 state
 
   abbrev ofRows : Option Refusal
-  ofRows = badLength 12 inputs rows then badByte 13 0 rows
+  ofRows = badLength 12 pins rows then badByte 13 0 rows
 
-  abbrev chain : Option Refusal
-  chain =
-      badLength 10 registers state
-      then badByte 11 0 state
-      then badLength 12 inputs rows
-      then badByte 13 0 rows
-      then badLength 14 filled buffer
-
-  parts : chain ≡ (ofState then (ofRows then badLength 14 filled buffer))
+  parts : lentRefusal registers pins filled state rows buffer ≡ (ofState then (ofRows then badLength 14 filled buffer))
   parts =
       then-assoc (badLength 10 registers state) (badByte 11 0 state) _
-      ∙ ap (λ q. ofState then q) (then-assoc (badLength 12 inputs rows) (badByte 13 0 rows) (badLength 14 filled buffer))
+      ∙ ap (λ q. ofState then q) (then-assoc (badLength 12 pins rows) (badByte 13 0 rows) (badLength 14 filled buffer))
 
-  state-stops : {r : Refusal} → ofState ≡ some r → chain ≡ some r
+  state-stops : {r : Refusal} → ofState ≡ some r → lentRefusal registers pins filled state rows buffer ≡ some r
   state-stops h = parts ∙ rw h
 
-  rows-stop : {r : Refusal} → ofState ≡ none → ofRows ≡ some r → chain ≡ some r
+  rows-stop : {r : Refusal} → ofState ≡ none → ofRows ≡ some r → lentRefusal registers pins filled state rows buffer ≡ some r
   rows-stop h k = parts ∙ rw (h, k)
 
-  buffer-left : ofState ≡ none → ofRows ≡ none → chain ≡ badLength 14 filled buffer
+  buffer-left : ofState ≡ none → ofRows ≡ none → lentRefusal registers pins filled state rows buffer ≡ badLength 14 filled buffer
   buffer-left h k = parts ∙ rw (h, k)
 
 returns : tie.Need-returns
@@ -46,7 +39,7 @@ returns c =
     let known = c .before in
     let state = known .before .before in
     let args = state .before .before .before .before .args in
-    sym (state-stops (args .registers) (args .inputs) (args .filled) (args .state .now) (args .rows .now) (args .buffer .now)
+    sym (state-stops (args .registers) (args .pins) (args .filled) (args .state .now) (args .rows .now) (args .buffer .now)
     (sym (state .codes-refusal .ensures) ∙ ap refusalIn (known .o .given .1)))
 
 -- past the state
@@ -60,17 +53,17 @@ returns-2 c =
     let known = c .before in
     let rows = known .before .before in
     let args = rows .before .before .before .before .before .before .before .args in
-    sym (rows-stop (args .registers) (args .inputs) (args .filled) (args .state .now) (args .rows .now) (args .buffer .now) (state-right (rows .before))
+    sym (rows-stop (args .registers) (args .pins) (args .filled) (args .state .now) (args .rows .now) (args .buffer .now) (state-right (rows .before))
     (sym (rows .codes-refusal2 .ensures) ∙ ap refusalIn (known .p .given .1)))
 
 -- past the rows
 rows-right : (c : tie.After-enum-told2)
     → let args = c .before .before .before .before .before .before .before .before .before .args in
-    chain (args .registers) (args .inputs) (args .filled) (args .state .now) (args .rows .now) (args .buffer .now) ≡ badLength 14 (args .filled) (args .buffer .now)
+    lentRefusal (args .registers) (args .pins) (args .filled) (args .state .now) (args .rows .now) (args .buffer .now) ≡ badLength 14 (args .filled) (args .buffer .now)
 rows-right c =
     let rows = c .before .before in
     let args = rows .before .before .before .before .before .before .before .args in
-    buffer-left (args .registers) (args .inputs) (args .filled) (args .state .now) (args .rows .now) (args .buffer .now) (state-right (rows .before))
+    buffer-left (args .registers) (args .pins) (args .filled) (args .state .now) (args .rows .now) (args .buffer .now) (state-right (rows .before))
     (sym (rows .codes-refusal2 .ensures) ∙ ap refusalIn (c .enum-told2 .given .1))
 
 returns-3 : tie.Need-returns-3
