@@ -81,7 +81,7 @@ pub fn ring() -> [u8; 29] {
 }
 
 // 0 INPUT; 1 INPUT; 2 INPUT; 3 NOT 0; 4 AND(0, 1); 5 OR(0, 1); 6 XOR(0, 0); 7 MUX(0, 1, 2); 8 CONST 1; 9 OUT 7, protected.
-pub fn each_kind() -> [u8; 78] {
+pub fn all_but_reg() -> [u8; 78] {
     *b"\
         \x0a\0\x03\0\0\0\x01\0\
         \x01\x01\x01\x03\x04\x05\x06\x07\0\x08\
@@ -96,4 +96,39 @@ pub fn each_kind() -> [u8; 78] {
         \x01\0\0\0\0\0\
         \x07\0\x01\0\0\0\
         "
+}
+
+// 0 INPUT; 1 INPUT; 2 OUT 0, protected; 3 OUT 1, protected.
+pub fn two_outs() -> [u8; 36] {
+    *b"\
+        \x04\0\x02\0\0\0\x02\0\
+        \x01\x01\x08\x08\
+        \0\0\0\0\0\0\
+        \0\0\0\0\0\0\
+        \0\0\x01\0\0\0\
+        \x01\0\x01\0\0\0\
+        "
+}
+
+// 8,192 nets, all of them CONST 0 but for 0 INPUT; 1 REG(8,190, start 1); 300 NOT 0; 8,190 NOT 300; 8,191 OUT 8,190, protected.
+pub fn largest() -> [u8; 57352] {
+    let mut s = [0u8; 57352];
+    s[1] = 32;
+    s[2] = 1;
+    s[4] = 1;
+    s[6] = 1;
+    s[8] = 1;
+    s[9] = 2;
+    s[308] = 3;
+    s[8198] = 3;
+    s[8199] = 8;
+    s[8206] = 254;
+    s[8207] = 31;
+    s[8208] = 1;
+    s[57340] = 44;
+    s[57341] = 1;
+    s[57346] = 254;
+    s[57347] = 31;
+    s[57348] = 1;
+    s
 }

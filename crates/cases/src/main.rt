@@ -20,11 +20,16 @@ fn main() {
     checking::limits();
     starting::power_ups();
     stepping::four_rows();
-    stepping::other_netlists();
+    stepping::verdicts();
+    stepping::net_bytes();
     stepping::refused();
+    stepping::refused_elsewhere();
     stepping::refused_in_order();
     running::short_runs();
     running::longest_run();
+    running::too_long_a_run();
     running::refused();
+    running::refused_elsewhere();
+    running::refused_with_no_cycle();
     running::refused_in_order();
 }

@@ -83,7 +83,7 @@ pub fn run_answer(name: &[u8], a: RunAnswer) {
         RunAnswer::Done(f) => {
             let v = f.verdict;
             verdict(v);
-            text(b" in cycle ");
+            text(b", cycle ");
             number(f.cycle);
         }
         RunAnswer::Refused(r) => {

@@ -2,6 +2,7 @@
 use crate::images::counter;
 use crate::images::one;
 use crate::images::ring;
+use crate::images::two;
 use crate::print::bytes;
 use crate::print::outcome;
 use crate::print::text;
@@ -28,7 +29,12 @@ pub fn power_ups() {
     show(b"power-up, R = 1, 0 bytes", &counter(), 0);
     show(b"power-up, R = 1, 2 bytes", &counter(), 2);
     show(
-        b"power-up, 8 and 10: one CONST, I = 1, R = 0, 1 byte",
+        b"power-up, net 1 of kind 9",
+        &two([0, 0, 0], [0, 0, 0, 0], [9, 0, 0, 0]),
+        0,
+    );
+    show(
+        b"power-up, 8 and 10: I = 1, 1 byte",
         &one([1, 0, 0], [0, 0, 0, 0]),
         1,
     );
