@@ -9,10 +9,7 @@ use Rattle.tracker.proofs.refusing.codes_refusal.Tie as tie
 
 returns : tie.Need-returns
 unfolding badLength
-returns c =
-    let args = c .before .before .before .args in
-    let other : length (args .s .now) ≡ args .n → ⊥ = c .before .if1 .taken in
-    rw (ne-eqb _ _ other) (c .refused .ensures)
+returns c = rw (ne-eqb _ _ (c .before .if1 .taken)) (c .refused .ensures)
 
 -- past the length
 right : (c : tie.Else1) → let args = c .before .before .args in length (args .s .now) ≡ args .n
