@@ -34,8 +34,8 @@ image r = check-none _ .1 (r .image)
 rows-of : {s st : List ℕ} {n : ℕ} {rows : List ℕ} → Ready s st n rows → claim.Rows n rows
 rows-of r = record { size = r .size; codes = each (r .codes) }
 
-pub accepted : claim.Accepted
-accepted =
+pub when-accepted : claim.Accepted
+when-accepted =
     record {
       power-up = λ s st. (
         λ h. let t = power-up-none s st .0 h in (check-none _ .1 (t .0), t .1),

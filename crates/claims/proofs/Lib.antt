@@ -1,4 +1,4 @@
--- The theorems. In `Examples`: examples. In `Gates`: mux-composed, gates-monotone. In `Accepted`: accepted. In `Unchanged`: unchanged.
+-- The theorems. In `Examples`: examples. In `Gates`: mux-composed, gates-monotone. In `Accepted`: when-accepted. In `Unchanged`: unchanged.
 -- In `Verdicts`: verdicts, first-flows. In `Steps`: run-is-steps.
 -- In `Pairing`: doubled-checks, doubling-writes, doubled-reads, demand2, doubled-unseen. In `TwoRun`: demand3.
 pub mod Examples

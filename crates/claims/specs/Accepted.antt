@@ -29,7 +29,7 @@ pub record Rows (n : ℕ) (rows : List ℕ) : Type 0 where
   pub size : length rows ≡ n
   pub codes : Codes rows
 
--- proved as `accepted`
+-- proved as `when-accepted`
 pub record Accepted : Type 0 where
   pub power-up : (s st : List ℕ) → (powerUpRefusal s st ≡ none) ↔ (Image s × (length st ≡ sizesOf s .registers))
   pub step : (s st row nets : List ℕ)
