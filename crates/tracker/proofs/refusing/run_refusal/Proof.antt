@@ -1,4 +1,5 @@
 -- `tracker::refusing::run_refusal` meets its contract: checking comes first, then the number of cycles, and then the lent bytes. No product wraps.
+use Prim.Native.Nat.{_≤_, _<_}
 use mathlib.Core.Path.{_≡_, sym, ap, _∙_}
 use mathlib.Core.Option.{none}
 use native.Mathlib.Omega.{arith}
@@ -22,9 +23,16 @@ returns c =
 accepted : (c : tie.After-enum-told) → checkRefusal (c .before .before .before .before .before .before .before .args .image .now) ≡ none
 accepted c = sym (c .before .before .check .ensures) ∙ ap refusalIn (c .enum-told .given .1)
 
+-- the number of cycles, as it was tested
+too-many : (c : tie.Then1) → 4096 < c .before .before .before .before .before .before .before .before .args .k
+too-many c = omega (arith, c .if1 .taken)
+
+few : (c : tie.Else1) → c .before .before .before .before .before .before .before .before .args .k ≤ 4096
+few c = omega (arith, c .if1 .left)
+
 returns-2 : tie.Need-returns-2
 unfolding runRefusal
-returns-2 c = rw (accepted (c .before .before), lt-ltb 4096 _ (c .before .if1 .taken)) (c .refused .ensures)
+returns-2 c = rw (accepted (c .before .before), lt-ltb 4096 _ (too-many (c .before))) (c .refused .ensures)
 
 sizes-of-requires : tie.Need-sizes-of-requires
 sizes-of-requires c κs = let image = check-none _ .0 (accepted (c .before)) in omega (arith, image .exact)
@@ -33,19 +41,19 @@ mul-lent-refusal : tie.Need-mul-lent-refusal
 mul-lent-refusal c =
     let sized = c .before in
     let image = check-none _ .0 (accepted (sized .before .before)) in
-    rw (sized .sizes-of .ensures) (record { fits = product-fits (sized .before .if1 .left) (omega (arith, image .inputs, few-of image INPUT)) })
+    rw (sized .sizes-of .ensures) (record { fits = product-fits (few (sized .before)) (omega (arith, image .inputs, few-of image INPUT)) })
 
 mul-lent-refusal-2 : tie.Need-mul-lent-refusal-2
 mul-lent-refusal-2 c =
     let sized = c .before .before in
     let image = check-none _ .0 (accepted (sized .before .before)) in
-    rw (sized .sizes-of .ensures) (record { fits = product-fits (sized .before .if1 .left) (omega (arith, image .outputs, few-of image OUT)) })
+    rw (sized .sizes-of .ensures) (record { fits = product-fits (few (sized .before)) (omega (arith, image .outputs, few-of image OUT)) })
 
 returns-3 : tie.Need-returns-3
 unfolding runRefusal
 returns-3 c =
     let sized = c .before .before .before in
-    rw (accepted (sized .before .before), le-ltb 4096 _ (sized .before .if1 .left)) (rw (sized .sizes-of .ensures) at (c .lent-refusal .ensures))
+    rw (accepted (sized .before .before), le-ltb 4096 _ (few (sized .before))) (rw (sized .sizes-of .ensures) at (c .lent-refusal .ensures))
 
 pub run-refusal-spec : {M : Type 1} → statement M
 run-refusal-spec =

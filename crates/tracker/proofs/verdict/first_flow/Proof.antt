@@ -6,6 +6,15 @@ use Rattle.tracker.specs.Cycle.{firstOf}
 use Rattle.tracker.proofs.verdict.first_flow.Statement.{statement}
 use Rattle.tracker.proofs.verdict.first_flow.Tie as tie
 
+-- a flow of this cycle
+returns-3 : tie.Need-returns-3
+unfolding firstOf
+returns-3 c =
+    let judged = c .before .before in
+    let flow-now = sym (judged .verdict-of .ensures) ∙ ap verdictIn (c .enum-told4 .given .1) in
+    rw (flow-now, judged .before .enum-told2 .given .1, c .enum-told4 .given .1)
+
+-- an earlier flow, and none at all
 returns : tie.Need-returns
 unfolding firstOf
 returns c = rw (c .enum-told .given .1)
@@ -16,13 +25,6 @@ returns-2 c =
     let judged = c .before .before in
     let clear-now = sym (judged .verdict-of .ensures) ∙ ap verdictIn (c .enum-told3 .given .1) in
     rw (clear-now, judged .before .enum-told2 .given .1)
-
-returns-3 : tie.Need-returns-3
-unfolding firstOf
-returns-3 c =
-    let judged = c .before .before in
-    let flow-now = sym (judged .verdict-of .ensures) ∙ ap verdictIn (c .enum-told4 .given .1) in
-    rw (flow-now, judged .before .enum-told2 .given .1, c .enum-told4 .given .1)
 
 pub first-flow-spec : {M : Type 1} → statement M
 first-flow-spec =

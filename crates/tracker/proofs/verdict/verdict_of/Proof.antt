@@ -30,7 +30,7 @@ loop-holds c =
     let pre = start .pre in
     let s = start .args .image .now in
     let bs = start .args .nets .now in
-    (pre .1 .1 .0, rw (← nets-left s _ (pre .1 .0 .0)) (verdict-from s _ _ (pre .1 .1 .0) bs (pre .1 .1 .1)))
+    (omega (arith, pre .1 .1 .0), rw (← nets-left s _ (pre .1 .0 .0)) (verdict-from s _ _ (pre .1 .1 .0) bs (pre .1 .1 .1)))
 
 flows-requires : tie.Need-flows-requires Inv-loop μ-loop
 flows-requires c κs =
