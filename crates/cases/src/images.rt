@@ -32,12 +32,12 @@ pub fn two(counts: [u8; 3], first: [u8; 4], second: [u8; 4]) -> [u8; 22] {
     s
 }
 
-// CONST 0; OUT 0, free; NOT 1.
+// CONST 1; OUT 0, free; NOT 1.
 pub fn three_nets() -> [u8; 29] {
     *b"\
         \x03\0\0\0\0\0\x01\0\
         \0\x08\x03\
-        \0\0\0\0\0\0\
+        \x01\0\0\0\0\0\
         \0\0\0\0\0\0\
         \x01\0\0\0\0\0\
         "

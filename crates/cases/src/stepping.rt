@@ -86,7 +86,7 @@ pub fn net_bytes() {
         b"\x01\0\x03",
         10,
     );
-    show_plain(b"step, CONST 0, OUT 0, NOT 1", &three_nets(), b"", 3);
+    show_plain(b"step, CONST 1, OUT 0, NOT 1", &three_nets(), b"", 3);
     show_plain(b"step, one CONST 1", &one([0, 0, 0], [0, 1, 0, 0]), b"", 1);
     show(
         b"step, one REG of itself",
