@@ -11,5 +11,7 @@ pub use kinds::CONST;
 pub use kinds::INPUT;
 pub use kinds::MUX;
 pub use kinds::NOT;
+pub use kinds::OR;
 pub use kinds::OUT;
 pub use kinds::REG;
+pub use kinds::XOR;

@@ -16,7 +16,7 @@ use Rattle.netlist.proofs.Checked.{Passes, is-const, is-input, is-reg, 
 abbrev header : Sizes → List ℕ
 header z = u16 (z .nets) ++ u16 (z .inputs) ++ u16 (z .registers) ++ u16 (z .outputs)
 
-operands-length : (xs : List Net) → length (operands xs) ≡ 6 * length xs
+pub operands-length : (xs : List Net) → length (operands xs) ≡ 6 * length xs
 operands-length [] = refl
 operands-length (x ∷ xs) = let h = operands-length xs in omega arith
 

@@ -4,3 +4,4 @@ pub mod Refusals
 pub mod Nets
 pub mod Checked
 pub mod Encoding
+pub mod Written

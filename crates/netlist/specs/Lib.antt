@@ -1,4 +1,5 @@
--- The image of a netlist, and its checking.
+-- The image of a netlist, its checking, and its writing.
 pub mod Operands
 pub mod Image
 pub mod Check
+pub mod Writing

@@ -1,8 +1,9 @@
-// The netlist image: readers of what stands in it, and its checking.
+// The netlist image: readers of what stands in it, its checking, and its writing.
 mod answer;
 mod checking;
 mod image;
 mod net;
+mod writing;
 
 pub use answer::Outcome;
 pub use answer::Refusal;
@@ -15,3 +16,5 @@ pub use image::net_at;
 pub use image::operand_at;
 pub use image::sizes_of;
 pub use image::u16_at;
+pub use writing::put_net;
+pub use writing::put_sizes;
