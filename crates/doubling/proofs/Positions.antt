@@ -57,7 +57,7 @@ unfolding doubledSize
 size-append [] ys = sym (zero-add (doubledSize ys))
 size-append (x ∷ xs) ys = let h = size-append xs ys in omega arith
 
-value-end : (xs : List Net) (n : ℕ) → length xs ≤ n → valueNet xs n ≡ doubledSize xs
+pub value-end : (xs : List Net) (n : ℕ) → length xs ≤ n → valueNet xs n ≡ doubledSize xs
 unfolding valueNet
 value-end xs n h = ap doubledSize (take-all n xs h)
 
@@ -66,7 +66,7 @@ pub data Laid (xs : List Net) : ℕ → List Net → Type 0 where
   end : {i : ℕ} → valueNet xs i ≡ doubledSize xs → Laid xs i []
   next : {i : ℕ} {y : Net} {ys : List Net} → valueNet xs (suc i) ≡ valueNet xs i + groupLength (y .kind) → Laid xs (suc i) ys → Laid xs i (y ∷ ys)
 
-value-next : (xs : List Net) (i : ℕ) → i < length xs → valueNet xs (suc i) ≡ valueNet xs i + groupLength (getD xs i nothing .kind)
+pub value-next : (xs : List Net) (i : ℕ) → i < length xs → valueNet xs (suc i) ≡ valueNet xs i + groupLength (getD xs i nothing .kind)
 unfolding valueNet doubledSize
 value-next xs i l = rw (take-suc xs i nothing l) (size-append (take i xs) (getD xs i nothing ∷ []) ∙ omega arith)
 
@@ -98,6 +98,11 @@ size-up [] (suc j) (suc i) h = omega arith
 size-up (x ∷ xs) zero i h = omega arith
 size-up (x ∷ xs) (suc j) zero h = absurd (omega arith)
 size-up (x ∷ xs) (suc j) (suc i) h = omega (arith, size-up xs j i (omega arith))
+
+-- no group begins behind the last net
+pub value-up : (xs : List Net) (i : ℕ) → valueNet xs i ≤ doubledSize xs
+unfolding valueNet
+value-up xs i = omega (arith, size-up xs i (i + length xs) (omega arith), value-end xs (i + length xs) (omega arith))
 
 module _ (xs : List Net) (n : ℕ) (ps : AllPass n 0 xs) (j i : ℕ) (h : j < i) (l : i ≤ length xs) where
   pub value-below : valueNet xs j + 2 ≤ valueNet xs i

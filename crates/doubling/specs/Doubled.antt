@@ -33,23 +33,23 @@ markNet xs i = doubledSize (take (suc i) xs) - 1
 -- have the names that document 01 gives them.
 
 -- CONST a; CONST 0
-abbrev constGroup : ℕ → List Net
+abbrev pub constGroup : ℕ → List Net
 constGroup a = net CONST a 0 0 ∷ net CONST 0 0 0 ∷ []
 
 -- INPUT; INPUT
-abbrev inputGroup : List Net
+abbrev pub inputGroup : List Net
 inputGroup = net INPUT 0 0 0 ∷ net INPUT 0 0 0 ∷ []
 
 -- REG on va with start b; REG on ta with start 0
-abbrev regGroup : (va ta b : ℕ) → List Net
+abbrev pub regGroup : (va ta b : ℕ) → List Net
 regGroup va ta b = net REG va b 0 ∷ net REG ta 0 0 ∷ []
 
 -- NOT va; OR(ta, ta)
-abbrev notGroup : (va ta : ℕ) → List Net
+abbrev pub notGroup : (va ta : ℕ) → List Net
 notGroup va ta = net NOT va 0 0 ∷ net OR ta ta 0 ∷ []
 
 -- AND(va, vb); p = AND(ta, vb); q = AND(tb, va); r = AND(ta, tb); s = OR(p, q); OR(s, r)
-abbrev andGroup : (v va ta vb tb : ℕ) → List Net
+abbrev pub andGroup : (v va ta vb tb : ℕ) → List Net
 andGroup v va ta vb tb =
     let p = v + 1 in
     let q = v + 2 in
@@ -58,7 +58,7 @@ andGroup v va ta vb tb =
     net AND va vb 0 ∷ net AND ta vb 0 ∷ net AND tb va 0 ∷ net AND ta tb 0 ∷ net OR p q 0 ∷ net OR s r 0 ∷ []
 
 -- OR(va, vb); m = NOT va; n = NOT vb; p = AND(ta, n); q = AND(tb, m); r = AND(ta, tb); s = OR(p, q); OR(s, r)
-abbrev orGroup : (v va ta vb tb : ℕ) → List Net
+abbrev pub orGroup : (v va ta vb tb : ℕ) → List Net
 orGroup v va ta vb tb =
     let m = v + 1 in
     let n = v + 2 in
@@ -70,11 +70,11 @@ orGroup v va ta vb tb =
     ∷ net NOT va 0 0 ∷ net NOT vb 0 0 ∷ net AND ta n 0 ∷ net AND tb m 0 ∷ net AND ta tb 0 ∷ net OR p q 0 ∷ net OR s r 0 ∷ []
 
 -- XOR(va, vb); OR(ta, tb)
-abbrev xorGroup : (va ta vb tb : ℕ) → List Net
+abbrev pub xorGroup : (va ta vb tb : ℕ) → List Net
 xorGroup va ta vb tb = net XOR va vb 0 ∷ net OR ta tb 0 ∷ []
 
 -- MUX(va, vb, vc); p = OR(va, vb); q = OR(ta, tb); r = OR(p, q); w = AND(tc, r); z = MUX(ta, tb, vc); OR(w, z)
-abbrev muxGroup : (v va ta vb tb vc tc : ℕ) → List Net
+abbrev pub muxGroup : (v va ta vb tb vc tc : ℕ) → List Net
 muxGroup v va ta vb tb vc tc =
     let p = v + 1 in
     let q = v + 2 in
@@ -84,18 +84,12 @@ muxGroup v va ta vb tb vc tc =
     net MUX va vb vc ∷ net OR va vb 0 ∷ net OR ta tb 0 ∷ net OR p q 0 ∷ net AND tc r 0 ∷ net MUX ta tb vc ∷ net OR w z 0 ∷ []
 
 -- OUT va, free; OUT ta, free
-abbrev outGroup : (va ta : ℕ) → List Net
+abbrev pub outGroup : (va ta : ℕ) → List Net
 outGroup va ta = net OUT va 0 0 ∷ net OUT ta 0 0 ∷ []
 
--- the group of a net by its kind; v is its value net, and val and mrk give the value and mark nets of its pins
-unfoldable pub groupOf : (v : ℕ) → Net → (val mrk : ℕ → ℕ) → List Net
-groupOf v x val mrk =
-    let va = val (x .a) in
-    let vb = val (x .b) in
-    let vc = val (x .c) in
-    let ta = mrk (x .a) in
-    let tb = mrk (x .b) in
-    let tc = mrk (x .c) in
+-- the group of a net x by its kind
+abbrev pub groupBy : (v : ℕ) → Net → (va ta vb tb vc tc : ℕ) → List Net
+groupBy v x va ta vb tb vc tc =
     getD
     (constGroup (x .a)
     ∷ inputGroup
@@ -108,6 +102,10 @@ groupOf v x val mrk =
     ∷ outGroup va ta
     ∷ [])
     (x .kind) []
+
+-- where val and mrk give the value and mark nets of its pins
+unfoldable pub groupOf : (v : ℕ) → Net → (val mrk : ℕ → ℕ) → List Net
+groupOf v x val mrk = groupBy v x (val (x .a)) (mrk (x .a)) (val (x .b)) (mrk (x .b)) (val (x .c)) (mrk (x .c))
 
 -- the group of y, which is net i of xs
 abbrev pub groupAt : List Net → (i : ℕ) → Net → List Net

@@ -1,0 +1,8 @@
+// The doubled netlist, in which the tracking is ordinary gates.
+mod doubling;
+mod group;
+mod lengths;
+mod pins;
+mod writing;
+
+pub use doubling::double;

@@ -1,0 +1,97 @@
+-- The group lengths summed net by net: each start is that of the definition, and fits a u16.
+use Prim.Native.Nat.{ℕ, zero, suc, _+_, _*_, _≤_, _<_}
+use mathlib.Core.Logic.{_⊎_, inl, inr}
+use mathlib.Core.Path.{_≡_, refl, _∙_}
+use mathlib.Core.List.{List}
+use native.Mathlib.Numerals.{add-one}
+use native.Mathlib.Omega.{arith}
+use lib.Dec.{lit≤}
+use lib.ListN.{length, getD, set, replicate}
+use lib.Seq.{getD-set-same, getD-set-other}
+use Rattle.netlist.specs.declared.image.Net.{Net}
+use Rattle.netlist.specs.Image.{sizesOf, kindAt, netAt, netsOf}
+use Rattle.netlist.proofs.Nets.{net-in}
+use Rattle.netlist.proofs.Checked.{Passes, is-const, is-input, is-reg, is-not, is-and, is-or, is-xor, is-mux, is-out, AllPass, nil, cons, Checked, length-nets}
+use Rattle.netlist.proofs.Encoding.{nothing}
+use Rattle.doubling.specs.Doubled.{groupLengths, groupLength, doubledSize, valueNet}
+use Rattle.doubling.proofs.Positions.{value-next, value-up}
+
+-- THE LARGEST SIZE
+eight-or-less : {n i : ℕ} {x : Net} → Passes n i x → groupLength (x .kind) ≤ 8
+unfolding groupLength groupLengths
+eight-or-less (is-const h) = lit≤ tt
+eight-or-less is-input = lit≤ tt
+eight-or-less (is-reg h k) = lit≤ tt
+eight-or-less (is-not h) = lit≤ tt
+eight-or-less (is-and h k) = lit≤ tt
+eight-or-less (is-or h k) = lit≤ tt
+eight-or-less (is-xor h k) = lit≤ tt
+eight-or-less (is-mux h k l) = lit≤ tt
+eight-or-less (is-out h k) = lit≤ tt
+
+-- net 0 has no pin below it: it is a CONST, an INPUT or a REG
+first-is-two : {n : ℕ} {x : Net} → Passes n 0 x → groupLength (x .kind) ≤ 2
+unfolding groupLength groupLengths
+first-is-two (is-const h) = lit≤ tt
+first-is-two is-input = lit≤ tt
+first-is-two (is-reg h k) = lit≤ tt
+first-is-two (is-not h) = absurd (omega arith)
+first-is-two (is-and h k) = absurd (omega arith)
+first-is-two (is-or h k) = absurd (omega arith)
+first-is-two (is-xor h k) = absurd (omega arith)
+first-is-two (is-mux h k l) = absurd (omega arith)
+first-is-two (is-out h k) = absurd (omega arith)
+
+size-most : {n i : ℕ} {xs : List Net} → AllPass n i xs → doubledSize xs ≤ 8 * length xs
+unfolding doubledSize
+size-most nil = omega arith
+size-most (cons p ps) = omega (arith, eight-or-less p, size-most ps)
+
+-- no netlist of N nets doubles to more than 8 × N − 6
+pub largest-size : {n : ℕ} {xs : List Net} → AllPass n 0 xs → 0 < length xs → doubledSize xs + 6 ≤ 8 * length xs
+unfolding doubledSize
+largest-size nil h = absurd (omega arith)
+largest-size (cons p ps) h = omega (arith, first-is-two p, size-most ps)
+
+pub kind-most : {n i : ℕ} {x : Net} → Passes n i x → x .kind ≤ 8
+kind-most (is-const h) = lit≤ tt
+kind-most is-input = lit≤ tt
+kind-most (is-reg h k) = lit≤ tt
+kind-most (is-not h) = lit≤ tt
+kind-most (is-and h k) = lit≤ tt
+kind-most (is-or h k) = lit≤ tt
+kind-most (is-xor h k) = lit≤ tt
+kind-most (is-mux h k l) = lit≤ tt
+kind-most (is-out h k) = lit≤ tt
+
+module _ {s : List ℕ} (c : Checked s) where
+  pub starts-fit : (i : ℕ) → valueNet (netsOf s) i < 65536
+  starts-fit i =
+      omega (arith, value-up (netsOf s) i, largest-size (c .nets) (omega (arith, c .some-nets, length-nets s)), length-nets s, c .few-nets)
+
+  -- one net further
+  pub next-start : {n : ℕ} (i : ℕ) → n ≡ sizesOf s .nets → i < n → valueNet (netsOf s) (i + 1) ≡ valueNet (netsOf s) i + groupLength (kindAt s i)
+  unfolding netAt
+  next-start {n} i e h =
+      let x = net-in s n i nothing e h in
+      rw (add-one i) (rw x at (value-next (netsOf s) i (omega (arith, length-nets s))))
+
+-- SUMMED. The starts to net i stand in an array
+abbrev pub Summed : List ℕ → List Net → ℕ → Type 0
+Summed t xs i = (j : ℕ) → j ≤ i → getD t j 0 ≡ valueNet xs j
+
+pub summed-begins : (xs : List Net) → (0 ≡ valueNet xs 0) × Summed (replicate 8193 0) xs 0
+unfolding valueNet doubledSize
+summed-begins xs = (refl, λ j h. let e : j ≡ 0 = omega arith in rw e)
+
+upto-or : (j i : ℕ) → j ≤ i + 1 → (j ≤ i) ⊎ (j ≡ i + 1)
+upto-or zero i h = inl (omega arith)
+upto-or (suc j) zero h = inr (omega arith)
+upto-or (suc j) (suc i) h = elim (upto-or j i (omega arith)) [ inl k ↦ inl (omega arith) | inr k ↦ inr (omega arith) ]
+
+pub summed-next : (t : List ℕ) (xs : List Net) (i v : ℕ) → Summed t xs i → i + 1 < length t → v ≡ valueNet xs (i + 1) → Summed (set t (i + 1) v) xs (i + 1)
+summed-next t xs i v h l e j k =
+    elim (upto-or j i k) [
+      | inl m ↦ getD-set-other t (i + 1) j v 0 (λ f. omega arith) ∙ h j m
+      | inr m ↦ rw m (getD-set-same t (i + 1) v 0 l ∙ e)
+    ]

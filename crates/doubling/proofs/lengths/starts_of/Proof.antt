@@ -1,0 +1,165 @@
+-- `doubling::lengths::starts_of` meets its contract. At net i the starts to net i stand in the array; behind the last net they are the doubled size.
+use Prim.Native.Nat.{_+_, _-_, _≤_, _<_}
+use native.Mathlib.Omega.{arith}
+use mathlib.Core.Path.{_≡_, refl, sym, _∙_}
+use lib.ListN.{length, length-set}
+use borrow.Author.Needs.{needs}
+use Rattle.netlist.specs.Image.{kindAt, netAt, netsOf}
+use Rattle.netlist.proofs.Checked.{Checked, check-none, net-passes, length-nets}
+use Rattle.doubling.specs.Doubled.{groupLengths, groupLength, doubledSize, valueNet}
+use Rattle.doubling.proofs.Positions.{value-end}
+use Rattle.doubling.proofs.Sums.{Summed, summed-begins, summed-next, next-start, starts-fit, kind-most}
+use Rattle.doubling.proofs.lengths.starts_of.Statement.{statement}
+use Rattle.doubling.proofs.lengths.starts_of.Tie as tie
+
+abbrev Inv-loop : tie.InvT-loop
+Inv-loop image n lengths starts₀ size₀ i₀ starts size i =
+    (i ≤ n) × (length starts ≡ 8193) × (size ≡ valueNet (netsOf image) i) × Summed starts (netsOf image) i
+
+abbrev μ-loop : tie.MeasureT-loop
+μ-loop image n lengths starts₀ size₀ i₀ starts size i = n - i
+
+abbrev Inv-loop2 : tie.InvT-loop2
+Inv-loop2 image n starts₀ size i₀ starts i =
+    (n ≤ i) × (i ≤ 8192) × (length starts ≡ 8193) × (size ≡ doubledSize (netsOf image)) × Summed starts (netsOf image) i
+
+abbrev μ-loop2 : tie.MeasureT-loop2
+μ-loop2 image n starts₀ size i₀ starts i = 8192 - i
+
+checked : (c : tie.Start Inv-loop μ-loop Inv-loop2 μ-loop2) → Checked (c .args .image .now)
+checked c = check-none _ .0 (c .pre .0)
+
+loop-holds : tie.Need-loop-holds Inv-loop μ-loop Inv-loop2 μ-loop2
+loop-holds c = let begun = summed-begins (netsOf (c .before .args .image .now)) in (omega arith, refl, begun .0, begun .1)
+
+-- net i: its kind, and the length of its group
+kind-at-requires : tie.Need-kind-at-requires Inv-loop μ-loop Inv-loop2 μ-loop2
+kind-at-requires c κs =
+    let begin = c .before .before .before in
+    omega (arith, checked begin .exact, begin .pre .1, c .loop-test .taken)
+
+kind : (c : tie.After-kind-at Inv-loop μ-loop Inv-loop2 μ-loop2) → c .kind-at .result < 9
+unfolding netAt
+kind c =
+    let at = c .before .before in
+    let begin = at .before .before in
+    let most : kindAt (begin .args .image .now) (at .loop .i) ≤ 8 = kind-most (net-passes (checked begin) (begin .pre .1) (at .loop .i) (c .before .loop-test .taken)) in
+    omega (arith, c .kind-at .ensures, most)
+
+next : (c : tie.After-kind-at Inv-loop μ-loop Inv-loop2 μ-loop2)
+    → let at = c .before .before in
+    at .loop .size + groupLength (c .kind-at .result) ≡ valueNet (netsOf (at .before .before .args .image .now)) (at .loop .i + 1)
+next c =
+    let at = c .before .before in
+    let begin = at .before .before in
+    rw (at .loop .inv .2, c .kind-at .ensures) (sym (next-start (checked begin) (at .loop .i) (begin .pre .1) (c .before .loop-test .taken)))
+
+room : (c : tie.After-kind-at Inv-loop μ-loop Inv-loop2 μ-loop2) → c .before .before .loop .i + 1 < 8193
+room c = let begin = c .before .before .before .before in omega (arith, c .before .loop-test .taken, begin .pre .1, checked begin .few-nets)
+
+cast-size : tie.Need-cast-size Inv-loop μ-loop Inv-loop2 μ-loop2
+cast-size c = omega (arith, kind c)
+
+mul-size : tie.Need-mul-size Inv-loop μ-loop Inv-loop2 μ-loop2
+mul-size c = omega (arith, kind c)
+
+array-read-size : tie.Need-array-read-size Inv-loop μ-loop Inv-loop2 μ-loop2
+array-read-size c = kind c
+
+add-size : tie.Need-add-size Inv-loop μ-loop Inv-loop2 μ-loop2
+unfolding groupLength groupLengths
+add-size c = let at = c .before .before in omega (arith, next c, starts-fit (checked (at .before .before)) (at .loop .i + 1))
+
+add-i : tie.Need-add-i Inv-loop μ-loop Inv-loop2 μ-loop2
+add-i c = search needs
+
+mul-starts : tie.Need-mul-starts Inv-loop μ-loop Inv-loop2 μ-loop2
+mul-starts c = omega (arith, room c)
+
+array-write-starts : tie.Need-array-write-starts Inv-loop μ-loop Inv-loop2 μ-loop2
+array-write-starts c = room c
+
+loop-less : tie.Need-loop-less Inv-loop μ-loop Inv-loop2 μ-loop2
+loop-less c = search needs
+
+loop-again : tie.Need-loop-again Inv-loop μ-loop Inv-loop2 μ-loop2
+unfolding groupLength groupLengths
+loop-again c =
+    let at = c .before .before in
+    let inv = at .loop .inv in
+    let xs = netsOf (at .before .before .args .image .now) in
+    let size = at .loop .size + groupLength (c .kind-at .result) in (
+      omega (arith, c .before .loop-test .taken),
+      length-set (at .loop .starts) (at .loop .i + 1) size ∙ inv .1,
+      next c,
+      summed-next (at .loop .starts) xs (at .loop .i) size (inv .3) (omega (arith, inv .1, room c)) (next c),
+    )
+
+loop2-holds : tie.Need-loop2-holds Inv-loop μ-loop Inv-loop2 μ-loop2
+loop2-holds c =
+    let at = c .before in
+    let begin = at .before .before in
+    let n = begin .pre .1 in
+    let xs = netsOf (begin .args .image .now) in
+    let long = length-nets (begin .args .image .now) in
+    let few = checked begin .few-nets in
+    let inv = at .loop .inv in
+    (omega (arith, c .loop-test .left), omega (arith, inv .0, n, few), inv .1, inv .2 ∙ value-end xs (at .loop .i) (omega (arith, c .loop-test .left, n, long)), inv .3)
+
+add-i-2 : tie.Need-add-i-2 Inv-loop μ-loop Inv-loop2 μ-loop2
+add-i-2 c = search needs
+
+mul-starts-2 : tie.Need-mul-starts-2 Inv-loop μ-loop Inv-loop2 μ-loop2
+mul-starts-2 c = search needs
+
+array-write-starts-2 : tie.Need-array-write-starts-2 Inv-loop μ-loop Inv-loop2 μ-loop2
+array-write-starts-2 c = search needs
+
+loop2-less : tie.Need-loop2-less Inv-loop μ-loop Inv-loop2 μ-loop2
+loop2-less c = search needs
+
+loop2-again : tie.Need-loop2-again Inv-loop μ-loop Inv-loop2 μ-loop2
+loop2-again c =
+    let at = c .before in
+    let begin = at .before .before .before .before in
+    let size = at .before .before .loop .size in
+    let inv = at .loop2 .inv in
+    let xs = netsOf (begin .args .image .now) in
+    let long = length-nets (begin .args .image .now) in
+    let end : size ≡ valueNet xs (at .loop2 .i + 1) = inv .3 ∙ sym (value-end xs (at .loop2 .i + 1) (omega (arith, inv .0, long, begin .pre .1))) in (
+      omega (arith, inv .0),
+      omega (arith, c .loop2-test .taken),
+      length-set (at .loop2 .starts) (at .loop2 .i + 1) size ∙ inv .2,
+      inv .3,
+      summed-next (at .loop2 .starts) xs (at .loop2 .i) size (inv .4) (omega (arith, c .loop2-test .taken, inv .2)) end,
+    )
+
+returns : tie.Need-returns Inv-loop μ-loop Inv-loop2 μ-loop2
+returns c = λ j h. c .before .loop2 .inv .4 j (omega (arith, c .loop2-test .left))
+
+pub starts-of-spec : {M : Type 1} → statement M
+starts-of-spec =
+    tie.close
+    (tie.spec
+    Inv-loop
+    μ-loop
+    Inv-loop2
+    μ-loop2
+    loop-holds
+    kind-at-requires
+    cast-size
+    mul-size
+    array-read-size
+    add-size
+    add-i
+    mul-starts
+    array-write-starts
+    loop-less
+    loop-again
+    loop2-holds
+    add-i-2
+    mul-starts-2
+    array-write-starts-2
+    loop2-less
+    loop2-again
+    returns)

@@ -1,0 +1,27 @@
+// The two nets that a pin becomes.
+ghost use mathlib.Core.Path.{_≡_};
+ghost use Prim.Native.Nat.{_+_, _-_, _<_};
+ghost use lib.ListN.{getD};
+
+// The value net and the mark net of a net: the first and the last of its group.
+pub struct Pair {
+    pub value: usize,
+    pub mark: usize,
+}
+
+fn wide(x: u16) -> usize
+    ensures { λ r. ⌜ (r ≡ x) × (r < 65536) ⌝ }
+{
+    x as usize
+}
+
+// Those of net i, by the starts of the groups.
+pub fn pair_of(starts: &[u16; 8193], i: usize) -> Pair
+    requires { ⌜ (i < 8192) × (0 < getD (now starts) (i + 1) 0) ⌝ }
+    ensures { λ r. ⌜ (r .value ≡ getD (now (starts .entry)) i 0) × (r .mark ≡ getD (now (starts .entry)) (i + 1) 0 - 1) ⌝ }
+{
+    Pair {
+        value: wide(starts[i]),
+        mark: wide(starts[i + 1]) - 1,
+    }
+}
