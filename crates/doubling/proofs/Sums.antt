@@ -1,5 +1,5 @@
 -- The group lengths summed net by net: each start is that of the definition, and fits a u16.
-use Prim.Native.Nat.{ℕ, zero, suc, _+_, _*_, _≤_, _<_}
+use Prim.Native.Nat.{ℕ, zero, suc, _+_, _*_, _-_, _≤_, _<_}
 use mathlib.Core.Logic.{_⊎_, inl, inr}
 use mathlib.Core.Path.{_≡_, refl, _∙_}
 use mathlib.Core.List.{List}
@@ -13,8 +13,9 @@ use Rattle.netlist.specs.Image.{sizesOf, kindAt, netAt, netsOf}
 use Rattle.netlist.proofs.Nets.{net-in}
 use Rattle.netlist.proofs.Checked.{Passes, is-const, is-input, is-reg, is-not, is-and, is-or, is-xor, is-mux, is-out, AllPass, nil, cons, Checked, length-nets}
 use Rattle.netlist.proofs.Encoding.{nothing}
-use Rattle.doubling.specs.Doubled.{groupLengths, groupLength, doubledSize, valueNet}
-use Rattle.doubling.proofs.Positions.{value-next, value-up}
+use Rattle.doubling.specs.Doubled.{groupLengths, groupLength, doubledSize, valueNet, markNet, groupBy, groupOf, groupAt}
+use Rattle.doubling.specs.Passes.{Starts}
+use Rattle.doubling.proofs.Positions.{two-or-more, value-next, value-up}
 
 -- THE LARGEST SIZE
 eight-or-less : {n i : ℕ} {x : Net} → Passes n i x → groupLength (x .kind) ≤ 8
@@ -53,21 +54,19 @@ unfolding doubledSize
 largest-size nil h = absurd (omega arith)
 largest-size (cons p ps) h = omega (arith, first-is-two p, size-most ps)
 
-pub kind-most : {n i : ℕ} {x : Net} → Passes n i x → x .kind ≤ 8
-kind-most (is-const h) = lit≤ tt
-kind-most is-input = lit≤ tt
-kind-most (is-reg h k) = lit≤ tt
-kind-most (is-not h) = lit≤ tt
-kind-most (is-and h k) = lit≤ tt
-kind-most (is-or h k) = lit≤ tt
-kind-most (is-xor h k) = lit≤ tt
-kind-most (is-mux h k l) = lit≤ tt
-kind-most (is-out h k) = lit≤ tt
+later : {n : ℕ} {xs : List Net} → AllPass n 0 xs → 0 < length xs → (i : ℕ) → 0 < valueNet xs (i + 1)
+unfolding valueNet doubledSize
+later nil h i = absurd (omega arith)
+later (cons p ps) h i = rw (add-one i) (omega (arith, two-or-more p))
 
 module _ {s : List ℕ} (c : Checked s) where
   pub starts-fit : (i : ℕ) → valueNet (netsOf s) i < 65536
   starts-fit i =
       omega (arith, value-up (netsOf s) i, largest-size (c .nets) (omega (arith, c .some-nets, length-nets s)), length-nets s, c .few-nets)
+
+  -- every group ends behind net 0
+  pub start-positive : (i : ℕ) → 0 < valueNet (netsOf s) (i + 1)
+  start-positive i = later (c .nets) (omega (arith, c .some-nets, length-nets s)) i
 
   -- one net further
   pub next-start : {n : ℕ} (i : ℕ) → n ≡ sizesOf s .nets → i < n → valueNet (netsOf s) (i + 1) ≡ valueNet (netsOf s) i + groupLength (kindAt s i)
@@ -95,3 +94,15 @@ summed-next t xs i v h l e j k =
       | inl m ↦ getD-set-other t (i + 1) j v 0 (λ f. omega arith) ∙ h j m
       | inr m ↦ rw m (getD-set-same t (i + 1) v 0 l ∙ e)
     ]
+
+-- PINS. The two nets of net i, as the starts give them
+pub pair-is : (t : List ℕ) (xs : List Net) → Starts t xs → (i : ℕ) → i < 8192 → (getD t i 0 ≡ valueNet xs i) × (getD t (i + 1) 0 - 1 ≡ markNet xs i)
+unfolding markNet valueNet
+pair-is t xs h i l = (h i (omega arith), rw (h (i + 1) (omega arith), add-one i))
+
+-- the group of x, net i of xs, from numbers that are its own value net and the two nets of each pin
+pub group-pinned : (xs : List Net) (i : ℕ) (x : Net) {v va ta vb tb vc tc : ℕ} → v ≡ valueNet xs i
+    → va ≡ valueNet xs (x .a) → ta ≡ markNet xs (x .a) → vb ≡ valueNet xs (x .b) → tb ≡ markNet xs (x .b) → vc ≡ valueNet xs (x .c) → tc ≡ markNet xs (x .c)
+    → groupBy v x va ta vb tb vc tc ≡ groupAt xs i x
+unfolding groupOf
+group-pinned xs i x v va ta vb tb vc tc = λ j. groupBy (v j) x (va j) (ta j) (vb j) (tb j) (vc j) (tc j)

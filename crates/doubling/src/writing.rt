@@ -36,7 +36,8 @@ fn group_at(image: &[u8], n: usize, starts: &[u16; 8193], i: usize) -> [Net; 8]
 
 // The first k nets of a group, as the nets from v on of an image of n nets.
 fn put_group(d: &mut [u8], n: usize, v: usize, k: usize, group: [Net; 8])
-    requires { ⌜ (length (now d) ≡ 8 + 7 * n) × (v + k ≤ n) × (k ≤ 8) ⌝ }
+    requires { ⌜ (length (now d) ≡ 8 + 7 * n) × (v + k ≤ n) ⌝ }
+    requires { ⌜ (k ≤ 8) × (length (take k group) ≡ k) ⌝ }
     requires { ⌜ ((j : ℕ) → j < k → Fits (getD group j (net 0 0 0 0))) ⌝ }
     ensures { λ r. ⌜ now (d .exit) ≡ putNets (now (d .entry)) n v (take k group) ⌝ }
 {

@@ -7,7 +7,7 @@ use mathlib.Core.Option.{none}
 use mathlib.Core.Bool.{Bool, true, false, _&&_, not, cond}
 use native.Mathlib.Numerals.{add-one}
 use native.Mathlib.Omega.{arith}
-use lib.Dec.{eqb, leb, ltb}
+use lib.Dec.{eqb, leb, ltb, lit≤}
 use lib.ListN.{length}
 use borrow.Author.Tests.{ltb-false, leb-false, le-ltb, lt-leb}
 use Rattle.netlist.specs.declared.image.Net.{Net}
@@ -29,6 +29,34 @@ pub data Passes (n i : ℕ) : Net → Type 0 where
   is-xor : {a b : ℕ} → a < i → b < i → Passes n i (net 6 a b 0)
   is-mux : {a b c : ℕ} → a < i → b < i → c < i → Passes n i (net 7 a b c)
   is-out : {a b : ℕ} → a < i → b ≤ 1 → Passes n i (net 8 a b 0)
+
+pub kind-most : {n i : ℕ} {x : Net} → Passes n i x → x .kind ≤ 8
+kind-most (is-const h) = lit≤ tt
+kind-most is-input = lit≤ tt
+kind-most (is-reg h k) = lit≤ tt
+kind-most (is-not h) = lit≤ tt
+kind-most (is-and h k) = lit≤ tt
+kind-most (is-or h k) = lit≤ tt
+kind-most (is-xor h k) = lit≤ tt
+kind-most (is-mux h k l) = lit≤ tt
+kind-most (is-out h k) = lit≤ tt
+
+-- the operands of a net that passes, pins or not
+pub record Small (x : Net) : Type 0 where
+  pub a : x .a < 8192
+  pub b : x .b < 8192
+  pub c : x .c < 8192
+
+pub operands-small : {n i : ℕ} {x : Net} → n ≤ 8192 → i < 8192 → Passes n i x → Small x
+operands-small h l (is-const k) = omega arith
+operands-small h l is-input = omega arith
+operands-small h l (is-reg k m) = omega arith
+operands-small h l (is-not k) = omega arith
+operands-small h l (is-and k m) = omega arith
+operands-small h l (is-or k m) = omega arith
+operands-small h l (is-xor k m) = omega arith
+operands-small h l (is-mux k m o) = omega arith
+operands-small h l (is-out k m) = omega arith
 
 -- the nets of a list, the first of which is net i
 pub data AllPass (n : ℕ) : ℕ → List Net → Type 0 where

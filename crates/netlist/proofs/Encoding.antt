@@ -11,7 +11,7 @@ use Rattle.netlist.specs.declared.image.Sizes.{Sizes}
 use Rattle.netlist.specs.declared.image.Net.{Net}
 use Rattle.netlist.specs.Image.{sizesOf, u16At, net, netAt, netsFrom, netsOf, u16, operands, encode}
 use Rattle.netlist.proofs.Pairs.{pairs-append}
-use Rattle.netlist.proofs.Checked.{Passes, is-const, is-input, is-reg, is-not, is-and, is-or, is-xor, is-mux, is-out, AllPass, nil, cons}
+use Rattle.netlist.proofs.Checked.{kind-most, Small, operands-small, AllPass, nil, cons}
 
 abbrev header : Sizes → List ℕ
 header z = u16 (z .nets) ++ u16 (z .inputs) ++ u16 (z .registers) ++ u16 (z .outputs)
@@ -100,33 +100,18 @@ u16-bytes n h k =
     let high : n / 256 < 256 = omega arith in
     Forall₂·cons low (Forall₂·cons high k)
 
--- a net's kind fits a byte, and its operands two
-record Fits (x : Net) : Type 0 where
-  kind-fits : x .kind < 256
-  a-fits : x .a < 65536
-  b-fits : x .b < 65536
-  c-fits : x .c < 65536
-
-passes-fit : {n i : ℕ} {x : Net} → n ≤ 8192 → i ≤ 8192 → Passes n i x → Fits x
-passes-fit h l (is-const k) = omega arith
-passes-fit h l is-input = omega arith
-passes-fit h l (is-reg k m) = omega arith
-passes-fit h l (is-not k) = omega arith
-passes-fit h l (is-and k m) = omega arith
-passes-fit h l (is-or k m) = omega arith
-passes-fit h l (is-xor k m) = omega arith
-passes-fit h l (is-mux k m o) = omega arith
-passes-fit h l (is-out k m) = omega arith
-
 kind-bytes : {n i : ℕ} {xs : List Net} → n ≤ 8192 → i + length xs ≤ 8192 → AllPass n i xs → Bytes (map (λ x. x .kind) xs)
 kind-bytes h l nil = Forall₂·nil
-kind-bytes h l (cons p ps) = Forall₂·cons (passes-fit h (omega arith) p .kind-fits) (kind-bytes h (omega arith) ps)
+kind-bytes h l (cons {x = x} p ps) =
+    let most : x .kind < 256 = omega (arith, kind-most p) in
+    Forall₂·cons most (kind-bytes h (omega arith) ps)
 
 operand-bytes : {n i : ℕ} {xs : List Net} → n ≤ 8192 → i + length xs ≤ 8192 → AllPass n i xs → Bytes (operands xs)
 operand-bytes h l nil = Forall₂·nil
 operand-bytes h l (cons {x = x} {xs = xs} p ps) =
-    let f = passes-fit h (omega arith) p in
-    u16-bytes (x .a) (f .a-fits) (u16-bytes (x .b) (f .b-fits) (u16-bytes (x .c) (f .c-fits) (operand-bytes h (omega arith) ps)))
+    let small = operands-small h (omega arith) p in
+    u16-bytes (x .a) (omega (arith, small .a))
+    (u16-bytes (x .b) (omega (arith, small .b)) (u16-bytes (x .c) (omega (arith, small .c)) (operand-bytes h (omega arith) ps)))
 
 pub encode-bytes :
     {n : ℕ} {z : Sizes} {xs : List Net} → n ≤ 8192 → length xs ≤ 8192 → AllPass n 0 xs

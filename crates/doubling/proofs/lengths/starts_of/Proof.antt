@@ -5,10 +5,10 @@ use mathlib.Core.Path.{_≡_, refl, sym, _∙_}
 use lib.ListN.{length, length-set}
 use borrow.Author.Needs.{needs}
 use Rattle.netlist.specs.Image.{kindAt, netAt, netsOf}
-use Rattle.netlist.proofs.Checked.{Checked, check-none, net-passes, length-nets}
+use Rattle.netlist.proofs.Checked.{kind-most, Checked, check-none, net-passes, length-nets}
 use Rattle.doubling.specs.Doubled.{groupLengths, groupLength, doubledSize, valueNet}
 use Rattle.doubling.proofs.Positions.{value-end}
-use Rattle.doubling.proofs.Sums.{Summed, summed-begins, summed-next, next-start, starts-fit, kind-most}
+use Rattle.doubling.proofs.Sums.{Summed, summed-begins, summed-next, next-start, starts-fit}
 use Rattle.doubling.proofs.lengths.starts_of.Statement.{statement}
 use Rattle.doubling.proofs.lengths.starts_of.Tie as tie
 
