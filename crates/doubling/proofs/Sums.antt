@@ -18,7 +18,7 @@ use Rattle.doubling.specs.Passes.{Starts}
 use Rattle.doubling.proofs.Positions.{two-or-more, value-next, value-up}
 
 -- THE LARGEST SIZE
-eight-or-less : {n i : ℕ} {x : Net} → Passes n i x → groupLength (x .kind) ≤ 8
+pub eight-or-less : {n i : ℕ} {x : Net} → Passes n i x → groupLength (x .kind) ≤ 8
 unfolding groupLength groupLengths
 eight-or-less (is-const h) = lit≤ tt
 eight-or-less is-input = lit≤ tt
@@ -79,9 +79,12 @@ module _ {s : List ℕ} (c : Checked s) where
 abbrev pub Summed : List ℕ → List Net → ℕ → Type 0
 Summed t xs i = (j : ℕ) → j ≤ i → getD t j 0 ≡ valueNet xs j
 
-pub summed-begins : (xs : List Net) → (0 ≡ valueNet xs 0) × Summed (replicate 8193 0) xs 0
+pub start-zero : (xs : List Net) → valueNet xs 0 ≡ 0
 unfolding valueNet doubledSize
-summed-begins xs = (refl, λ j h. let e : j ≡ 0 = omega arith in rw e)
+start-zero xs = refl
+
+pub summed-begins : (xs : List Net) → Summed (replicate 8193 0) xs 0
+summed-begins xs j h = let e : j ≡ 0 = omega arith in rw (e, start-zero xs)
 
 upto-or : (j i : ℕ) → j ≤ i + 1 → (j ≤ i) ⊎ (j ≡ i + 1)
 upto-or zero i h = inl (omega arith)

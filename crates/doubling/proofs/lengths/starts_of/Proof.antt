@@ -8,7 +8,7 @@ use Rattle.netlist.specs.Image.{kindAt, netAt, netsOf}
 use Rattle.netlist.proofs.Checked.{kind-most, Checked, check-none, net-passes, length-nets}
 use Rattle.doubling.specs.Doubled.{groupLengths, groupLength, doubledSize, valueNet}
 use Rattle.doubling.proofs.Positions.{value-end}
-use Rattle.doubling.proofs.Sums.{Summed, summed-begins, summed-next, next-start, starts-fit}
+use Rattle.doubling.proofs.Sums.{Summed, start-zero, summed-begins, summed-next, next-start, starts-fit}
 use Rattle.doubling.proofs.lengths.starts_of.Statement.{statement}
 use Rattle.doubling.proofs.lengths.starts_of.Tie as tie
 
@@ -30,7 +30,7 @@ checked : (c : tie.Start Inv-loop μ-loop Inv-loop2 μ-loop2) → Checked (c .ar
 checked c = check-none _ .0 (c .pre .0)
 
 loop-holds : tie.Need-loop-holds Inv-loop μ-loop Inv-loop2 μ-loop2
-loop-holds c = let begun = summed-begins (netsOf (c .before .args .image .now)) in (omega arith, refl, begun .0, begun .1)
+loop-holds c = let xs = netsOf (c .before .args .image .now) in (omega arith, refl, sym (start-zero xs), summed-begins xs)
 
 -- net i: its kind, and the length of its group
 kind-at-requires : tie.Need-kind-at-requires Inv-loop μ-loop Inv-loop2 μ-loop2
