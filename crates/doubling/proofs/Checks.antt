@@ -7,10 +7,11 @@ use mathlib.Core.Option.{none, some}
 use mathlib.Core.Bool.{cond}
 use native.Mathlib.Omega.{arith}
 use lib.Dec.{eqb}
-use lib.ListN.{length}
+use lib.ListN.{length, replicate}
 use Rattle.netlist.specs.declared.image.Net.{Net}
 use Rattle.netlist.specs.Image.{sizesOf, netsOf, count}
 use Rattle.netlist.specs.declared.answer.Refusal.{Refusal}
+use Rattle.netlist.specs.Check.{refusal, checkRefusal}
 use Rattle.netlist.proofs.Refusals.{accepted}
 use Rattle.netlist.proofs.Checked.{Passes, is-const, is-input, is-reg, is-not, is-and, is-or, is-xor, is-mux, is-out, AllPass, nil, cons, Checked, check-none, length-nets, count-most}
 use Rattle.netlist.proofs.Encoding.{encode-length, sizes-back, nets-back, Bytes, encode-bytes}
@@ -104,14 +105,20 @@ unfolding doubleRefusal
 double-none s buf =
     (λ h. let t = simp (accepted, check-none) at h in (t .0, t .1 .0, t .1 .1), λ h. simp (accepted, check-none) (h .0, (h .1, h .2)))
 
--- an accepted call writes the doubled image: 17 is never given
-pub double-accepted : (s buf : List ℕ) → doubleRefusal s buf ≡ none → doubleOf s buf ≡ record { refusal = none; image = doubledImage s }
-unfolding doubleOf
-double-accepted s buf h =
-    let t = double-none s buf .0 h in
-    let e = check-none (doubledImage s) .1 (doubled-checked s (t .0) (t .1)) in
-    rw (h, doubleOf) (rw e)
-
 pub double-refused : (s buf : List ℕ) (r : Refusal) → doubleRefusal s buf ≡ some r → doubleOf s buf ≡ record { refusal = some r; image = buf }
 unfolding doubleOf
 double-refused s buf r h = rw (h, doubleOf)
+
+-- past its refusals, what is written is checked again
+module _ (s buf : List ℕ) (h : doubleRefusal s buf ≡ none) where
+  pub double-passed : checkRefusal (doubledImage s) ≡ none → doubleOf s buf ≡ record { refusal = none; image = doubledImage s }
+  unfolding doubleOf
+  double-passed e = rw (h, doubleOf) (rw e)
+
+  pub double-failed : (r : Refusal) → checkRefusal (doubledImage s) ≡ some r → doubleOf s buf ≡ record { refusal = some (refusal 17 0); image = replicate (length buf) 0 }
+  unfolding doubleOf
+  double-failed r e = rw (h, doubleOf) (rw e)
+
+  -- and always passes: 17 is never given
+  pub double-accepted : doubleOf s buf ≡ record { refusal = none; image = doubledImage s }
+  double-accepted = let t = double-none s buf .0 h in double-passed (check-none (doubledImage s) .1 (doubled-checked s (t .0) (t .1)))

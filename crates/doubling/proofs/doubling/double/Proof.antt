@@ -1,129 +1,146 @@
+-- `doubling::doubling::double` meets its contract: a refusal leaves the buffer; else it has the doubled image, which is checked again.
+use Prim.Native.Nat.{_+_, _*_, _≤_, _<_}
+use native.Mathlib.Omega.{arith}
+use mathlib.Core.Path.{_≡_, ap, sym, _∙_}
+use mathlib.Core.Option.{none}
+use lib.ListN.{length, getD}
 use borrow.Author.Needs.{needs}
+use Rattle.netlist.specs.declared.image.Sizes.{Sizes}
+use Rattle.netlist.specs.Image.{netsOf}
+use Rattle.netlist.specs.Check.{refusalIn, checkRefusal, badLength}
+use Rattle.netlist.proofs.Checked.{Checked, check-none, length-nets}
+use Rattle.doubling.specs.Doubled.{doubledSize, doubledImage, doubleRefusal}
+use Rattle.doubling.proofs.Positions.{value-end}
+use Rattle.doubling.proofs.Sums.{starts-fit}
+use Rattle.doubling.proofs.Checks.{double-none, double-refused, double-passed, double-failed}
 use Rattle.doubling.proofs.doubling.double.Statement.{statement}
 use Rattle.doubling.proofs.doubling.double.Tie as tie
-use Rattle.doubling.proofs.doubling.double.Reads as reads
-use Rattle.doubling.proofs.doubling.double.Lts as lts
-use Rattle.doubling.proofs.doubling.clear.Reads as clear-reads
-use Rattle.doubling.proofs.doubling.room_refusal.Reads as room-refusal-reads
-use Rattle.doubling.proofs.lengths.starts_of.Reads as starts-of-reads
-use Rattle.doubling.proofs.writing.write_image.Reads as write-image-reads
-use Rattle.netlist.proofs.refused.Reads as refused-reads
-use Rattle.netlist.proofs.check.Reads as check-reads
-use Rattle.netlist.proofs.sizes_of.Reads as sizes-of-reads
 
--- src/doubling.rt:46:9
-check-requires : tie.Need-check-requires
-check-requires c κs = search needs
-
--- src/doubling.rt:47:29
-enum-known-o : tie.Need-enum-known-o
-enum-known-o c = search needs
-
--- src/doubling.rt:48:9
 returns : tie.Need-returns
-returns c = ?
+unfolding doubleRefusal
+returns c =
+    let known = c .before in
+    let begin = known .before .before .before .before .before in
+    let refusal = sym (known .before .before .check .ensures) ∙ ap refusalIn (known .o .given .1) in
+    sym (double-refused (begin .args .image .now) (begin .args .buffer .now) _ (rw refusal))
 
-enum-told : tie.Need-enum-told
-enum-told c = search needs
+-- past checking
+accepted : (c : tie.After-enum-told) → checkRefusal (c .before .before .before .before .before .args .image .now) ≡ none
+accepted c = sym (c .before .before .check .ensures) ∙ ap refusalIn (c .enum-told .given .1)
 
--- src/doubling.rt:50:9
+checked : (c : tie.After-enum-told) → Checked (c .before .before .before .before .before .args .image .now)
+checked c = check-none _ .0 (accepted c)
+
 sizes-of-requires : tie.Need-sizes-of-requires
-sizes-of-requires c κs = ?
+sizes-of-requires c κs = omega (arith, checked c .exact)
 
--- src/doubling.rt:52:18
 starts-of-requires : tie.Need-starts-of-requires
-starts-of-requires c κs = ?
+starts-of-requires c κs = (accepted (c .before), ap (λ (z : Sizes). z .nets) (c .sizes-of .ensures))
 
--- src/doubling.rt:53:16
-mul-size : tie.Need-mul-size
-mul-size c = ?
+-- the number of nets, and the doubled size behind the last start
+few : (c : tie.After-sizes-of) → c .sizes-of .result .nets ≤ 8192
+few c = rw (c .sizes-of .ensures) (checked (c .before) .few-nets)
 
--- src/doubling.rt:53:16
-array-read-size : tie.Need-array-read-size
-array-read-size c = ?
+size-is : (c : tie.After-starts-of)
+    → getD (c .starts-of .result) (c .before .sizes-of .result .nets) 0
+    ≡ doubledSize (netsOf (c .before .before .before .before .before .before .before .args .image .now))
+size-is c =
+    let s = c .before .before .before .before .before .before .before .args .image .now in
+    let n = ap (λ (z : Sizes). z .nets) (c .before .sizes-of .ensures) in
+    c .starts-of .ensures (c .before .sizes-of .result .nets) (few (c .before)) ∙ value-end (netsOf s) _ (omega (arith, n, length-nets s))
 
--- src/doubling.rt:53:16
 cast-size : tie.Need-cast-size
-cast-size c = search needs
+cast-size c =
+    let n = c .before .sizes-of .result .nets in
+    omega (arith, c .starts-of .ensures n (few (c .before)), starts-fit (checked (c .before .before)) n)
 
--- src/doubling.rt:54:9
-room-refusal-requires : tie.Need-room-refusal-requires
-room-refusal-requires c κs = search needs
+-- the chain of refusals, past checking
+chain : (c : tie.After-room-refusal)
+    → let args = c .before .before .before .before .before .before .before .before .args in
+    doubleRefusal (args .image .now) (args .buffer .now) ≡ refusalIn (c .room-refusal .result)
+unfolding doubleRefusal badLength
+chain c = rw (accepted (c .before .before .before), ← size-is (c .before)) (sym (c .room-refusal .ensures))
 
--- src/doubling.rt:55:29
-enum-known-p : tie.Need-enum-known-p
-enum-known-p c = search needs
-
--- src/doubling.rt:56:9
 returns-2 : tie.Need-returns-2
-returns-2 c = ?
+returns-2 c =
+    let known = c .before in
+    let room = known .before .before in
+    let args = room .before .before .before .before .before .before .before .before .args in
+    sym (double-refused (args .image .now) (args .buffer .now) _ (chain room ∙ ap refusalIn (known .p .given .1)))
 
-enum-told-2 : tie.Need-enum-told-2
-enum-told-2 c = search needs
+-- past all refusals
+passed : (c : tie.After-enum-told2)
+    → let args = c .before .before .before .before .before .before .before .before .before .before .args in
+    doubleRefusal (args .image .now) (args .buffer .now) ≡ none
+passed c = chain (c .before .before) ∙ ap refusalIn (c .enum-told2 .given .1)
 
--- src/doubling.rt:58:5
 write-image-requires : tie.Need-write-image-requires
-write-image-requires c κs = ?
+write-image-requires c κs =
+    let told = c .before .before in
+    let starts = told .before .before .before in
+    let size = size-is starts in
+    let ready = double-none _ _ .0 (passed told) in (
+      accepted (starts .before .before),
+      (
+        (starts .before .sizes-of .ensures, starts .starts-of .ensures),
+        (size, omega (arith, size, ready .1), omega (arith, size, ready .2)),
+      ),
+    )
 
--- src/doubling.rt:59:9
-check-requires-2 : tie.Need-check-requires-2
-check-requires-2 c κs = search needs
+-- what was written is checked again
+recheck : (c : tie.After-check2)
+    → refusalIn (c .check2 .result) ≡ checkRefusal (doubledImage (c .before .before .before .before .before .before .before .before .before .before .before .before .before .before .before .before .before .args .image .now))
+recheck c = c .check2 .ensures ∙ ap checkRefusal (c .before .before .before .before .write-image .ensures)
 
--- src/doubling.rt:61:15
-enum-told-3 : tie.Need-enum-told-3
-enum-told-3 c = search needs
-
--- src/doubling.rt:61:9
-clear-requires : tie.Need-clear-requires
-clear-requires c κs = search needs
-
--- src/doubling.rt:62:9
-refused-requires : tie.Need-refused-requires
-refused-requires c κs = search needs
-
--- src/doubling.rt:62:9
-same-length : tie.Need-same-length
-same-length c = search needs
-
--- src/doubling.rt:62:9
 returns-3 : tie.Need-returns-3
-returns-3 c = ?
+returns-3 c =
+    let clear = c .before .before .before in
+    let told = clear .before .before in
+    let check = told .before .before in
+    let write = check .before .before .before .before in
+    let failed = double-failed _ _ (passed (write .before .before .before)) _ (sym (recheck check) ∙ ap refusalIn (told .enum-told3 .given .1)) in
+    rw (c .refused .ensures, clear .clear .ensures, write .write-image .kept .0) (sym failed)
 
-enum-told-4 : tie.Need-enum-told-4
-enum-told-4 c = search needs
+same-length : tie.Need-same-length
+same-length c =
+    let clear = c .before .before .before in
+    let write = clear .before .before .before .before .before .before .before .before in
+    clear .clear .kept .0 ∙ write .write-image .kept .0
 
--- src/doubling.rt:43:1
-same-length-2 : tie.Need-same-length-2
-same-length-2 c = search needs
-
--- src/doubling.rt:43:1
 returns-4 : tie.Need-returns-4
-returns-4 c = ?
+returns-4 c =
+    let check = c .before .before in
+    let write = check .before .before .before .before in
+    rw (write .write-image .ensures)
+    (sym (double-passed _ _ (passed (write .before .before .before)) (sym (recheck check) ∙ ap refusalIn (c .enum-told4 .given .1))))
+
+same-length-2 : tie.Need-same-length-2
+same-length-2 c = c .before .before .before .before .before .before .write-image .kept .0
 
 pub double-spec : {M : Type 1} → statement M
 double-spec =
     tie.close
     (tie.spec
-    check-requires
-    enum-known-o
+    (λ c κs. search needs)
+    (λ c. search needs)
     returns
-    enum-told
+    (λ c. search needs)
     sizes-of-requires
     starts-of-requires
-    mul-size
-    array-read-size
+    (λ c. omega (arith, few (c .before)))
+    (λ c. omega (arith, few (c .before)))
     cast-size
-    room-refusal-requires
-    enum-known-p
+    (λ c κs. search needs)
+    (λ c. search needs)
     returns-2
-    enum-told-2
+    (λ c. search needs)
     write-image-requires
-    check-requires-2
-    enum-told-3
-    clear-requires
-    refused-requires
+    (λ c κs. search needs)
+    (λ c. search needs)
+    (λ c κs. search needs)
+    (λ c κs. search needs)
     same-length
     returns-3
-    enum-told-4
+    (λ c. search needs)
     same-length-2
     returns-4)
