@@ -1,6 +1,5 @@
 // Doubling.
 use crate::lengths::starts_of;
-use crate::pins::pair_of;
 use crate::writing::write_image;
 use netlist::Outcome;
 use netlist::check;

@@ -11,7 +11,7 @@ use Rattle.netlist.specs.declared.image.Sizes.{Sizes}
 use Rattle.netlist.specs.declared.image.Net.{Net}
 use Rattle.netlist.specs.Image.{sizesOf, u16At, net, netAt, netsFrom, netsOf, u16, operands, encode}
 use Rattle.netlist.proofs.Pairs.{pairs-append}
-use Rattle.netlist.proofs.Checked.{kind-most, Small, operands-small, AllPass, nil, cons}
+use Rattle.netlist.proofs.Checked.{kind-most, operands-small, AllPass, nil, cons}
 
 abbrev header : Sizes → List ℕ
 header z = u16 (z .nets) ++ u16 (z .inputs) ++ u16 (z .registers) ++ u16 (z .outputs)

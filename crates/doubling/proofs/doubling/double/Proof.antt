@@ -1,9 +1,9 @@
 -- `doubling::doubling::double` meets its contract: a refusal leaves the buffer; else it has the doubled image, which is checked again.
-use Prim.Native.Nat.{_+_, _*_, _≤_, _<_}
+use Prim.Native.Nat.{_≤_}
 use native.Mathlib.Omega.{arith}
 use mathlib.Core.Path.{_≡_, ap, sym, _∙_}
 use mathlib.Core.Option.{none}
-use lib.ListN.{length, getD}
+use lib.ListN.{getD}
 use borrow.Author.Needs.{needs}
 use Rattle.netlist.specs.declared.image.Sizes.{Sizes}
 use Rattle.netlist.specs.Image.{netsOf}

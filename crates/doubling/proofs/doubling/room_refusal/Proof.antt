@@ -1,5 +1,4 @@
 -- `doubling::doubling::room_refusal` meets its contract: 15 comes before 16.
-use mathlib.Core.Path.{_≡_}
 use borrow.Author.Needs.{needs}
 use borrow.Author.Tests.{eq-eqb, ne-eqb, lt-ltb, le-ltb}
 use Rattle.doubling.proofs.doubling.room_refusal.Statement.{statement}

@@ -3,7 +3,6 @@ use Prim.Native.Nat.{ℕ, _+_, _-_, _<_}
 use native.Mathlib.Omega.{arith}
 use mathlib.Core.Path.{_≡_, _∙_}
 use lib.ListN.{getD, take}
-use borrow.Author.Needs.{needs}
 use Rattle.netlist.specs.Image.{netAt, netsOf}
 use Rattle.netlist.proofs.Checked.{kind-most, Small, operands-small, Checked, check-none, net-passes}
 use Rattle.doubling.specs.Doubled.{groupLength, groupAt, valueNet, markNet}

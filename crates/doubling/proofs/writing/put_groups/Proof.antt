@@ -2,15 +2,15 @@
 use Prim.Native.Nat.{_+_, _*_, _-_, _≤_, _<_}
 use native.Mathlib.Omega.{arith}
 use mathlib.Core.Path.{_≡_, ap, sym, _∙_}
-use lib.ListN.{length, getD, take}
+use lib.ListN.{length, getD}
 use lib.Seq.{getD-take}
 use borrow.Author.Needs.{needs}
 use Rattle.netlist.specs.Image.{kindAt, netAt, netsOf}
-use Rattle.netlist.specs.Writing.{Fits, putNets}
+use Rattle.netlist.specs.Writing.{putNets}
 use Rattle.netlist.proofs.Nets.{netsLeft, nets-left, nets-done}
 use Rattle.netlist.proofs.Checked.{Checked, check-none, net-passes}
 use Rattle.netlist.proofs.Encoding.{nothing}
-use Rattle.doubling.specs.Doubled.{groupLength, groupAt, groupsFrom, doubledSize, valueNet, doubledNets}
+use Rattle.doubling.specs.Doubled.{groupLength, groupsFrom, valueNet, doubledNets}
 use Rattle.doubling.proofs.Positions.{group-length}
 use Rattle.doubling.proofs.Sums.{eight-or-less, start-positive, next-start, start-zero}
 use Rattle.doubling.proofs.Laying.{one-group, group-ends, group-fits}

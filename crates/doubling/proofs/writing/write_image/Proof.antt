@@ -1,7 +1,7 @@
 -- `doubling::writing::write_image` meets its contract: sizes and groups make up the doubled image.
-use Prim.Native.Nat.{_+_, _*_, _≤_}
+use Prim.Native.Nat.{_≤_}
 use native.Mathlib.Omega.{arith}
-use mathlib.Core.Path.{_≡_, ap, _∙_}
+use mathlib.Core.Path.{ap, _∙_}
 use borrow.Author.Needs.{needs}
 use Rattle.gates.specs.Kinds.{INPUT, REG, OUT}
 use Rattle.netlist.specs.declared.image.Sizes.{Sizes}

@@ -1,7 +1,7 @@
 -- `netlist::writing::put_net` meets its contract: the kind stands among the kinds, and the operands among the operands.
 use Prim.Native.Nat.{_+_}
 use native.Mathlib.Omega.{arith}
-use mathlib.Core.Path.{_≡_, _∙_}
+use mathlib.Core.Path.{_∙_}
 use lib.ListN.{length-set}
 use borrow.Author.Needs.{needs}
 use Rattle.netlist.specs.Writing.{putNet}

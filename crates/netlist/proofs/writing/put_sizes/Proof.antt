@@ -1,5 +1,5 @@
 -- `netlist::writing::put_sizes` meets its contract: four u16, one behind the other.
-use mathlib.Core.Path.{_≡_, _∙_}
+use mathlib.Core.Path.{_∙_}
 use borrow.Author.Needs.{needs}
 use Rattle.netlist.specs.Image.{encode}
 use Rattle.netlist.proofs.writing.put_sizes.Statement.{statement}
