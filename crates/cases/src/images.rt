@@ -132,3 +132,46 @@ pub fn largest() -> [u8; 57352] {
     s[57348] = 1;
     s
 }
+
+// One net of each kind: 0 INPUT; 1 REG(8, start 2); 2 CONST 1; 3 NOT 0; 4 AND(0, 1); 5 OR(1, 2); 6 XOR(3, 4); 7 MUX(4, 5, 6); 8 OUT 7, protected.
+pub fn nine_kinds() -> [u8; 71] {
+    *b"\
+        \x09\0\x01\0\x01\0\x01\0\
+        \x01\x02\0\x03\x04\x05\x06\x07\x08\
+        \0\0\0\0\0\0\
+        \x08\0\x02\0\0\0\
+        \x01\0\0\0\0\0\
+        \0\0\0\0\0\0\
+        \0\0\x01\0\0\0\
+        \x01\0\x02\0\0\0\
+        \x03\0\x04\0\0\0\
+        \x04\0\x05\0\x06\0\
+        \x07\0\x01\0\0\0\
+        "
+}
+
+// Kinds, each of them OR.
+fn ors(kinds: &mut [u8]) {
+    let mut i: usize = 0;
+    while i < kinds.len() {
+        kinds[i] = 5;
+        i += 1;
+    }
+}
+
+// 1,025 nets: 0 CONST 0; 1 to 1,023 OR(0, 0); 1,024 a gate of this kind with the pins 1,023 and 1,022.
+pub fn many_ors(counts: [u8; 3], kind: u8) -> [u8; 7183] {
+    let mut s = [0u8; 7183];
+    s[0] = 1;
+    s[1] = 4;
+    s[2] = counts[0];
+    s[4] = counts[1];
+    s[6] = counts[2];
+    ors(&mut s[9..1032]);
+    s[1032] = kind;
+    s[7177] = 255;
+    s[7178] = 3;
+    s[7179] = 254;
+    s[7180] = 3;
+    s
+}

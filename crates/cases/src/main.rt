@@ -1,5 +1,6 @@
 // Document 01's examples, executed: a line has an example and what the library answers, and the file stdout has what the document says.
 mod checking;
+mod doubled;
 mod gate_bytes;
 mod images;
 mod print;
@@ -32,4 +33,8 @@ fn main() {
     running::refused_elsewhere();
     running::refused_with_no_cycle();
     running::refused_in_order();
+    doubled::written();
+    doubled::refused();
+    doubled::refused_in_order();
+    doubled::runs();
 }

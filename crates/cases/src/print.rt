@@ -5,6 +5,8 @@ use netlist::Refusal;
 use tracker::RunAnswer;
 use tracker::StepAnswer;
 use tracker::Verdict;
+ghost use Prim.Native.Nat.{_+_, _≤_};
+ghost use lib.ListN.{length};
 
 pub fn text(s: &[u8]) {
     io::write_all(STDOUT_FILENO, s);
@@ -31,6 +33,14 @@ pub fn bytes(name: &[u8], s: &[u8]) {
         number(wide(s[i]));
         i += 1;
     }
+}
+
+// n bytes of a buffer, from a place on.
+pub fn part(name: &[u8], s: &[u8], from: usize, n: usize)
+    requires { ⌜ from + n ≤ length (now s) ⌝ }
+{
+    let end = from + n;
+    bytes(name, &s[from..end]);
 }
 
 fn refusal(r: Refusal) {

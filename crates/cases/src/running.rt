@@ -8,9 +8,10 @@ use crate::images::three_outs;
 use crate::images::two;
 use crate::images::two_outs;
 use crate::print::bytes;
+use crate::print::part;
 use crate::print::run_answer;
 use crate::print::text;
-ghost use Prim.Native.Nat.{_+_, _≤_};
+ghost use Prim.Native.Nat.{_≤_};
 ghost use lib.ListN.{length};
 
 fn call(name: &[u8], image: &[u8], k: usize, state: &mut [u8], rows: &[u8], outputs: &mut [u8]) {
@@ -89,21 +90,13 @@ pub fn short_runs() {
     );
 }
 
-// Four bytes of a buffer, from a place on.
-fn four(name: &[u8], s: &[u8], from: usize)
-    requires { ⌜ from + 4 ≤ length (now s) ⌝ }
-{
-    let end = from + 4;
-    bytes(name, &s[from..end]);
-}
-
 fn call_long(name: &[u8], image: &[u8], k: usize, state: &mut [u8], rows: &[u8], outputs: &mut [u8])
     requires { ⌜ 4 ≤ length (now outputs) ⌝ }
 {
     run_answer(name, tracker::run(image, k, state, rows, outputs));
     bytes(b", state", state);
-    four(b", outputs", outputs, 0);
-    four(b" ..", outputs, outputs.len() - 4);
+    part(b", outputs", outputs, 0, 4);
+    part(b" ..", outputs, outputs.len() - 4, 4);
     text(b"\n");
 }
 
