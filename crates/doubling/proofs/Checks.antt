@@ -15,7 +15,7 @@ use Rattle.netlist.specs.Check.{refusal, checkRefusal}
 use Rattle.netlist.proofs.Refusals.{accepted}
 use Rattle.netlist.proofs.Checked.{Passes, is-const, is-input, is-reg, is-not, is-and, is-or, is-xor, is-mux, is-out, AllPass, nil, cons, Checked, check-none, length-nets, count-most}
 use Rattle.netlist.proofs.Encoding.{encode-length, sizes-back, nets-back, Bytes, encode-bytes}
-use Rattle.doubling.specs.Doubled.{doubledSize, valueNet, markNet, groupOf, groupAt, groupsFrom, doubledNets, doubledImage, doubleRefusal, doubleOf}
+use Rattle.doubling.specs.Doubled.{doubledSize, valueNet, markNet, groupOf, groupAt, groupsFrom, doubledNets, doubledSizes, doubledImage, doubleRefusal, doubleOf}
 use Rattle.doubling.proofs.Positions.{two-or-more, doubled-length, doubled-passes}
 
 -- the kinds that are counted
@@ -58,10 +58,7 @@ size-positive nil h = absurd (omega arith)
 size-positive (cons p ps) h = omega (arith, two-or-more p)
 
 -- what is read back from the doubled image
-pub doubled-sizes :
-    (s : List ℕ)
-    → sizesOf (doubledImage s)
-    ≡ record { nets = doubledSize (netsOf s); inputs = 2 * sizesOf s .inputs; registers = 2 * sizesOf s .registers; outputs = 2 * sizesOf s .outputs }
+pub doubled-sizes : (s : List ℕ) → sizesOf (doubledImage s) ≡ doubledSizes s
 unfolding doubledImage
 doubled-sizes s = sizes-back _ _
 

@@ -8,14 +8,13 @@ use native.Mathlib.Omega.{arith}
 use lib.ListN.{length, getD}
 use lib.Seq.{sets}
 use Rattle.netlist.specs.declared.image.Net.{Net}
-use Rattle.netlist.specs.declared.image.Sizes.{Sizes}
 use Rattle.netlist.specs.Image.{sizesOf, kindAt, netAt, netsOf, encode}
 use Rattle.netlist.specs.Writing.{Fits, putNets}
 use Rattle.netlist.proofs.Nets.{netsLeft, nets-next, net-in}
 use Rattle.netlist.proofs.Checked.{Passes, AllPass, nil, cons, operands-small, Checked, length-nets}
 use Rattle.netlist.proofs.Encoding.{nothing}
 use Rattle.netlist.proofs.Written.{puts-append, written}
-use Rattle.doubling.specs.Doubled.{groupLength, groupAt, groupsFrom, doubledSize, valueNet, doubledNets, doubledImage}
+use Rattle.doubling.specs.Doubled.{groupLength, groupAt, groupsFrom, doubledSize, valueNet, doubledNets, doubledSizes, doubledImage}
 use Rattle.doubling.proofs.Positions.{group-length, group-net, doubled-length, doubled-passes, value-up}
 use Rattle.doubling.proofs.Sums.{next-start}
 
@@ -57,11 +56,9 @@ module _ {s : List ℕ} (c : Checked s) {n : ℕ} (e : n ≡ sizesOf s .nets) (i
       record { a = omega (arith, small .a); b = omega (arith, small .b); c = omega (arith, small .c) }
 
 -- sizes and all groups make up the doubled image
-pub image-laid : (s d : List ℕ) (z : Sizes) (size : ℕ) → z ≡ sizesOf s → size ≡ doubledSize (netsOf s) → length d ≡ 8 + 7 * size
-    → putNets (sets d 0 (encode (record { nets = size; inputs = 2 * z .inputs; registers = 2 * z .registers; outputs = 2 * z .outputs }) [])) size 0 (doubledNets (netsOf s))
-    ≡ doubledImage s
+pub image-laid : (s d : List ℕ) → length d ≡ 8 + 7 * doubledSize (netsOf s)
+    → putNets (sets d 0 (encode (doubledSizes s) [])) (doubledSize (netsOf s)) 0 (doubledNets (netsOf s)) ≡ doubledImage s
 unfolding doubledImage
-image-laid s d z size e f h =
-    let xs = doubledNets (netsOf s) in
-    let long : length xs ≡ size = doubled-length (netsOf s) ∙ sym f in
-    rw (← f, ← e) (rw long at (written d (record { nets = size; inputs = 2 * z .inputs; registers = 2 * z .registers; outputs = 2 * z .outputs }) xs (rw long h)))
+image-laid s d h =
+    let long = doubled-length (netsOf s) in
+    rw long at (written d (doubledSizes s) (doubledNets (netsOf s)) (rw long h))

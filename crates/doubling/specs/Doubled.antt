@@ -5,6 +5,7 @@ use mathlib.Core.Option.{Option, none, some}
 use lib.Dec.{ltb}
 use lib.ListN.{length, getD, take, replicate}
 use Rattle.gates.specs.Kinds.{CONST, INPUT, REG, NOT, AND, OR, XOR, MUX, OUT}
+use Rattle.netlist.specs.declared.image.Sizes.{Sizes}
 use Rattle.netlist.specs.declared.image.Net.{Net}
 use Rattle.netlist.specs.Image.{sizesOf, net, netsOf, encode}
 use Rattle.netlist.specs.declared.answer.Refusal.{Refusal}
@@ -119,16 +120,18 @@ groupsFrom xs i (y ∷ ys) = groupAt xs i y ++ groupsFrom xs (suc i) ys
 unfoldable pub doubledNets : List Net → List Net
 doubledNets xs = groupsFrom xs 0 xs
 
-unfoldable pub doubledImage : List ℕ → List ℕ
-doubledImage s =
-    encode
-    (record {
+-- inputs, registers and outputs pair
+abbrev pub doubledSizes : List ℕ → Sizes
+doubledSizes s =
+    record {
       nets = doubledSize (netsOf s);
       inputs = 2 * sizesOf s .inputs;
       registers = 2 * sizesOf s .registers;
       outputs = 2 * sizesOf s .outputs;
-    })
-    (doubledNets (netsOf s))
+    }
+
+unfoldable pub doubledImage : List ℕ → List ℕ
+doubledImage s = encode (doubledSizes s) (doubledNets (netsOf s))
 
 -- doubling: the refusal that it gives, or none, and the lent buffer
 pub record Doubling : Type 0 where

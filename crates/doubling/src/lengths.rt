@@ -4,10 +4,18 @@ ghost use mathlib.Core.Path.{_≡_};
 ghost use mathlib.Core.Option.{none};
 ghost use Rattle.netlist.specs.Image.{sizesOf, netsOf};
 ghost use Rattle.netlist.specs.Check.{checkRefusal};
+ghost use Rattle.doubling.specs.Doubled.{groupLengths};
 ghost use Rattle.doubling.specs.Passes.{Starts};
 
 // The group lengths for kinds 0 to 8.
 const GROUP_LENGTHS: [u16; 9] = [2, 2, 2, 2, 6, 8, 2, 7, 2];
+
+// The table by value.
+fn group_lengths() -> [u16; 9]
+    ensures { λ r. ⌜ r ≡ groupLengths ⌝ }
+{
+    GROUP_LENGTHS
+}
 
 // For each net the first net of its group, and behind the last net the doubled size: the group lengths, summed. The pin of a REG may name a later net, so
 // all of them are there before the first group is written. An accepted netlist doubles to at most 8 × 8,192 − 6 nets, which a u16 holds.
@@ -16,7 +24,7 @@ pub fn starts_of(image: &[u8], n: usize) -> [u16; 8193]
     requires { ⌜ n ≡ sizesOf (now image) .nets ⌝ }
     ensures { λ r. ⌜ Starts r (netsOf (now (image .entry))) ⌝ }
 {
-    let lengths = GROUP_LENGTHS;
+    let lengths = group_lengths();
     let mut starts = [0u16; 8193];
     let mut size: u16 = 0;
     let mut i: usize = 0;

@@ -2,11 +2,11 @@
 use Prim.Native.Nat.{_+_, _-_, _≤_, _<_}
 use native.Mathlib.Omega.{arith}
 use mathlib.Core.Path.{_≡_, refl, sym, _∙_}
-use lib.ListN.{length, length-set}
+use lib.ListN.{length, getD, length-set}
 use borrow.Author.Needs.{needs}
 use Rattle.netlist.specs.Image.{kindAt, netAt, netsOf}
 use Rattle.netlist.proofs.Checked.{kind-most, Checked, check-none, net-passes, length-nets}
-use Rattle.doubling.specs.Doubled.{groupLengths, groupLength, doubledSize, valueNet}
+use Rattle.doubling.specs.Doubled.{groupLength, doubledSize, valueNet}
 use Rattle.doubling.proofs.Positions.{value-end}
 use Rattle.doubling.proofs.Sums.{Summed, start-zero, summed-begins, summed-next, next-start, starts-fit}
 use Rattle.doubling.proofs.lengths.starts_of.Statement.{statement}
@@ -30,32 +30,33 @@ checked : (c : tie.Start Inv-loop μ-loop Inv-loop2 μ-loop2) → Checked (c .ar
 checked c = check-none _ .0 (c .pre .0)
 
 loop-holds : tie.Need-loop-holds Inv-loop μ-loop Inv-loop2 μ-loop2
-loop-holds c = let xs = netsOf (c .before .args .image .now) in (omega arith, refl, sym (start-zero xs), summed-begins xs)
+loop-holds c = let xs = netsOf (c .before .before .args .image .now) in (omega arith, refl, sym (start-zero xs), summed-begins xs)
 
 -- net i: its kind, and the length of its group
 kind-at-requires : tie.Need-kind-at-requires Inv-loop μ-loop Inv-loop2 μ-loop2
 kind-at-requires c κs =
-    let begin = c .before .before .before in
+    let begin = c .before .before .before .before in
     omega (arith, checked begin .exact, begin .pre .1, c .loop-test .taken)
 
 kind : (c : tie.After-kind-at Inv-loop μ-loop Inv-loop2 μ-loop2) → c .kind-at .result < 9
 unfolding netAt
 kind c =
     let at = c .before .before in
-    let begin = at .before .before in
+    let begin = at .before .before .before in
     let most : kindAt (begin .args .image .now) (at .loop .i) ≤ 8 = kind-most (net-passes (checked begin) (begin .pre .1) (at .loop .i) (c .before .loop-test .taken)) in
     omega (arith, c .kind-at .ensures, most)
 
 next : (c : tie.After-kind-at Inv-loop μ-loop Inv-loop2 μ-loop2)
     → let at = c .before .before in
-    at .loop .size + groupLength (c .kind-at .result) ≡ valueNet (netsOf (at .before .before .args .image .now)) (at .loop .i + 1)
+    at .loop .size + getD (at .before .group-lengths .result) (c .kind-at .result) 0 ≡ valueNet (netsOf (at .before .before .before .args .image .now)) (at .loop .i + 1)
+unfolding groupLength
 next c =
     let at = c .before .before in
-    let begin = at .before .before in
-    rw (at .loop .inv .2, c .kind-at .ensures) (sym (next-start (checked begin) (at .loop .i) (begin .pre .1) (c .before .loop-test .taken)))
+    let begin = at .before .before .before in
+    rw (at .loop .inv .2, at .before .group-lengths .ensures, c .kind-at .ensures) (sym (next-start (checked begin) (at .loop .i) (begin .pre .1) (c .before .loop-test .taken)))
 
 room : (c : tie.After-kind-at Inv-loop μ-loop Inv-loop2 μ-loop2) → c .before .before .loop .i + 1 < 8193
-room c = let begin = c .before .before .before .before in omega (arith, c .before .loop-test .taken, begin .pre .1, checked begin .few-nets)
+room c = let begin = c .before .before .before .before .before in omega (arith, c .before .loop-test .taken, begin .pre .1, checked begin .few-nets)
 
 cast-size : tie.Need-cast-size Inv-loop μ-loop Inv-loop2 μ-loop2
 cast-size c = omega (arith, kind c)
@@ -67,8 +68,7 @@ array-read-size : tie.Need-array-read-size Inv-loop μ-loop Inv-loop2 μ-loop2
 array-read-size c = kind c
 
 add-size : tie.Need-add-size Inv-loop μ-loop Inv-loop2 μ-loop2
-unfolding groupLength groupLengths
-add-size c = let at = c .before .before in omega (arith, next c, starts-fit (checked (at .before .before)) (at .loop .i + 1))
+add-size c = let at = c .before .before in omega (arith, next c, starts-fit (checked (at .before .before .before)) (at .loop .i + 1))
 
 add-i : tie.Need-add-i Inv-loop μ-loop Inv-loop2 μ-loop2
 add-i c = search needs
@@ -83,12 +83,11 @@ loop-less : tie.Need-loop-less Inv-loop μ-loop Inv-loop2 μ-loop2
 loop-less c = search needs
 
 loop-again : tie.Need-loop-again Inv-loop μ-loop Inv-loop2 μ-loop2
-unfolding groupLength groupLengths
 loop-again c =
     let at = c .before .before in
     let inv = at .loop .inv in
-    let xs = netsOf (at .before .before .args .image .now) in
-    let size = at .loop .size + groupLength (c .kind-at .result) in (
+    let xs = netsOf (at .before .before .before .args .image .now) in
+    let size = at .loop .size + getD (at .before .group-lengths .result) (c .kind-at .result) 0 in (
       omega (arith, c .before .loop-test .taken),
       length-set (at .loop .starts) (at .loop .i + 1) size ∙ inv .1,
       next c,
@@ -98,7 +97,7 @@ loop-again c =
 loop2-holds : tie.Need-loop2-holds Inv-loop μ-loop Inv-loop2 μ-loop2
 loop2-holds c =
     let at = c .before in
-    let begin = at .before .before in
+    let begin = at .before .before .before in
     let n = begin .pre .1 in
     let xs = netsOf (begin .args .image .now) in
     let long = length-nets (begin .args .image .now) in
@@ -121,7 +120,7 @@ loop2-less c = search needs
 loop2-again : tie.Need-loop2-again Inv-loop μ-loop Inv-loop2 μ-loop2
 loop2-again c =
     let at = c .before in
-    let begin = at .before .before .before .before in
+    let begin = at .before .before .before .before .before in
     let size = at .before .before .loop .size in
     let inv = at .loop2 .inv in
     let xs = netsOf (begin .args .image .now) in
@@ -145,6 +144,7 @@ starts-of-spec =
     μ-loop
     Inv-loop2
     μ-loop2
+    (λ c κs. search needs)
     loop-holds
     kind-at-requires
     cast-size

@@ -8,7 +8,6 @@ use Rattle.netlist.specs.declared.image.Sizes.{Sizes}
 use Rattle.netlist.specs.Image.{netsOf}
 use Rattle.netlist.specs.Writing.{putNets}
 use Rattle.netlist.proofs.Checked.{Checked, check-none, few-of}
-use Rattle.doubling.specs.Doubled.{doubledNets}
 use Rattle.doubling.proofs.Laying.{image-laid}
 use Rattle.doubling.proofs.writing.write_image.Statement.{statement}
 use Rattle.doubling.proofs.writing.write_image.Tie as tie
@@ -47,9 +46,9 @@ returns c =
     let begin = sized .before .before .before .before .before .before .before in
     let args = begin .args in
     let size = begin .pre .1 .1 in
-    done .put-groups .ensures
-    ∙ ap (λ d. putNets d (args .size) 0 (doubledNets (netsOf (args .image .now)))) (sized .put-sizes .ensures)
-    ∙ image-laid (args .image .now) (args .d .now) (args .z) (args .size) (begin .pre .1 .0 .0) (size .0) (size .2)
+    let sizes = rw (size .0, begin .pre .1 .0 .0) at (sized .put-sizes .ensures) in
+    let nets = rw (size .0, sizes) at (done .put-groups .ensures) in
+    nets ∙ image-laid (args .image .now) (args .d .now) (rw (size .0) at (size .2))
 
 pub write-image-spec : {M : Type 1} → statement M
 write-image-spec =
