@@ -2,31 +2,35 @@
 use Prim.Native.Nat.{ℕ, zero, suc, _+_, _≤_, _<_}
 use mathlib.Core.Path.{_≡_, refl, ap, ap₂, sym, _∙_, subst}
 use mathlib.Core.List.{List, [], _∷_, _++_, append-assoc, Forall₂, Forall₂·nil, Forall₂·cons}
-use mathlib.Core.Bool.{_||_, not}
+use mathlib.Core.Bool.{Bool, _&&_, _||_, not}
 use native.Mathlib.Omega.{arith}
 use native.Mathlib.Nat.{zero-add, add-zero}
 use native.Mathlib.Numerals.{add-one}
-use lib.Dec.{T, eqb, eqb→eq, lit≤}
+use lib.Dec.{T, eqb, eqb→eq, leb, leb→le}
 use lib.ListN.{length, getD, take, drop, length-append, take-append-drop, List·getD-append}
 use lib.Seq.{take-all, take-suc, drop-cons, drop-at, length-take-le, getD-drop}
 use Rattle.netlist.specs.declared.image.Net.{Net}
 use Rattle.netlist.specs.Image.{net}
 use Rattle.netlist.proofs.Pairs.{pairs-append, pairs-getD}
-use Rattle.netlist.proofs.Checked.{Passes, is-const, is-input, is-reg, is-not, is-and, is-or, is-xor, is-mux, is-out, AllPass, nil, cons}
+use Rattle.gates.proofs.Laws.{and-T}
+use Rattle.gates.proofs.Entries.{entry}
+use Rattle.netlist.proofs.Checked.{kind-most, Passes, is-const, is-input, is-reg, is-not, is-and, is-or, is-xor, is-mux, is-out, AllPass, nil, cons}
 use Rattle.netlist.proofs.Encoding.{nothing}
 use Rattle.doubling.specs.Doubled.{groupLengths, groupLength, doubledSize, valueNet, markNet, groupOf, groupAt, groupsFrom, doubledNets}
 
+-- every group has two to eight nets, by one test of the table
+lengths-test : ℕ → ℕ → Bool
+lengths-test k x = leb 2 x && leb x 8
+
+pub two-to-eight : {n i : ℕ} {x : Net} → Passes n i x → (2 ≤ groupLength (x .kind)) × (groupLength (x .kind) ≤ 8)
+unfolding lengths-test groupLength groupLengths
+two-to-eight {x = x} p =
+    let l = getD groupLengths (x .kind) 0 in
+    let t = and-T (leb 2 l) (leb l 8) (entry lengths-test groupLengths tt (x .kind) (omega (arith, kind-most p))) in
+    (leb→le 2 l (t .0), leb→le l 8 (t .1))
+
 pub two-or-more : {n i : ℕ} {x : Net} → Passes n i x → 2 ≤ groupLength (x .kind)
-unfolding groupLength groupLengths
-two-or-more (is-const h) = lit≤ tt
-two-or-more is-input = lit≤ tt
-two-or-more (is-reg h k) = lit≤ tt
-two-or-more (is-not h) = lit≤ tt
-two-or-more (is-and h k) = lit≤ tt
-two-or-more (is-or h k) = lit≤ tt
-two-or-more (is-xor h k) = lit≤ tt
-two-or-more (is-mux h k l) = lit≤ tt
-two-or-more (is-out h k) = lit≤ tt
+two-or-more p = two-to-eight p .0
 
 -- a group has the length that the table says; a kind above 8 has 0 there, and no nets
 length-by-kind : (v k a b c : ℕ) (val mrk : ℕ → ℕ) → length (groupOf v (net k a b c) val mrk) ≡ groupLength k

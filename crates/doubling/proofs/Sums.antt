@@ -15,21 +15,9 @@ use Rattle.netlist.proofs.Checked.{Passes, is-const, is-input, is-reg, is-not, 
 use Rattle.netlist.proofs.Encoding.{nothing}
 use Rattle.doubling.specs.Doubled.{groupLengths, groupLength, doubledSize, valueNet, markNet, groupBy, groupOf, groupAt}
 use Rattle.doubling.specs.Passes.{Starts}
-use Rattle.doubling.proofs.Positions.{two-or-more, value-next, value-up}
+use Rattle.doubling.proofs.Positions.{two-to-eight, two-or-more, value-next, value-up}
 
 -- THE LARGEST SIZE
-pub eight-or-less : {n i : ℕ} {x : Net} → Passes n i x → groupLength (x .kind) ≤ 8
-unfolding groupLength groupLengths
-eight-or-less (is-const h) = lit≤ tt
-eight-or-less is-input = lit≤ tt
-eight-or-less (is-reg h k) = lit≤ tt
-eight-or-less (is-not h) = lit≤ tt
-eight-or-less (is-and h k) = lit≤ tt
-eight-or-less (is-or h k) = lit≤ tt
-eight-or-less (is-xor h k) = lit≤ tt
-eight-or-less (is-mux h k l) = lit≤ tt
-eight-or-less (is-out h k) = lit≤ tt
-
 -- net 0 has no pin below it: it is a CONST, an INPUT or a REG
 first-is-two : {n : ℕ} {x : Net} → Passes n 0 x → groupLength (x .kind) ≤ 2
 unfolding groupLength groupLengths
@@ -46,7 +34,7 @@ first-is-two (is-out h k) = absurd (omega arith)
 size-most : {n i : ℕ} {xs : List Net} → AllPass n i xs → doubledSize xs ≤ 8 * length xs
 unfolding doubledSize
 size-most nil = omega arith
-size-most (cons p ps) = omega (arith, eight-or-less p, size-most ps)
+size-most (cons p ps) = omega (arith, two-to-eight p .1, size-most ps)
 
 -- no netlist of N nets doubles to more than 8 × N − 6
 pub largest-size : {n : ℕ} {xs : List Net} → AllPass n 0 xs → 0 < length xs → doubledSize xs + 6 ≤ 8 * length xs

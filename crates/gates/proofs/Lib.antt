@@ -2,4 +2,4 @@
 pub mod EachCode
 pub mod Laws
 pub mod Composed
-mod Entries
+pub mod Entries

@@ -89,7 +89,10 @@ write-image-requires c κs =
 
 -- what was written is checked again
 recheck : (c : tie.After-check2)
-    → refusalIn (c .check2 .result) ≡ checkRefusal (doubledImage (c .before .before .before .before .before .before .before .before .before .before .before .before .before .before .before .before .before .args .image .now))
+    → let write = c .before .before .before .before in
+    let started = write .before .before .before .before .before .before in
+    let args = started .before .before .before .before .before .before .before .args in
+    refusalIn (c .check2 .result) ≡ checkRefusal (doubledImage (args .image .now))
 recheck c = c .check2 .ensures ∙ ap checkRefusal (c .before .before .before .before .write-image .ensures)
 
 returns-3 : tie.Need-returns-3

@@ -11,8 +11,8 @@ use Rattle.netlist.proofs.Nets.{netsLeft, nets-left, nets-done}
 use Rattle.netlist.proofs.Checked.{Checked, check-none, net-passes}
 use Rattle.netlist.proofs.Encoding.{nothing}
 use Rattle.doubling.specs.Doubled.{groupLength, groupsFrom, valueNet, doubledNets}
-use Rattle.doubling.proofs.Positions.{group-length}
-use Rattle.doubling.proofs.Sums.{eight-or-less, start-positive, next-start, start-zero}
+use Rattle.doubling.proofs.Positions.{two-to-eight, group-length}
+use Rattle.doubling.proofs.Sums.{start-positive, next-start, start-zero}
 use Rattle.doubling.proofs.Laying.{one-group, group-ends, group-fits}
 use Rattle.doubling.proofs.writing.put_groups.Statement.{statement}
 use Rattle.doubling.proofs.writing.put_groups.Tie as tie
@@ -101,7 +101,7 @@ put-group-requires c κs =
     rw (nets own) (
       (at .loop .inv .1, omega (arith, first own, group-ends (checked begin) n i h, size .0)),
       (
-        (eight-or-less (net-passes (checked begin) n i h), ap length group ∙ group-length (netsOf s) i (netAt s (begin .args .n) i)),
+        (two-to-eight (net-passes (checked begin) n i h) .1, ap length group ∙ group-length (netsOf s) i (netAt s (begin .args .n) i)),
         λ j l.
             let same = ap (λ g. getD g j nothing) (sym group) ∙ getD-take (groupLength (kindAt s i)) (made .group-at .result) j nothing l in
             rw same at (group-fits (checked begin) n i h (omega (arith, size .0, size .1)) j l),

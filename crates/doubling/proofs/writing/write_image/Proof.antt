@@ -5,8 +5,6 @@ use mathlib.Core.Path.{ap, _∙_}
 use borrow.Author.Needs.{needs}
 use Rattle.gates.specs.Kinds.{INPUT, REG, OUT}
 use Rattle.netlist.specs.declared.image.Sizes.{Sizes}
-use Rattle.netlist.specs.Image.{netsOf}
-use Rattle.netlist.specs.Writing.{putNets}
 use Rattle.netlist.proofs.Checked.{Checked, check-none, few-of}
 use Rattle.doubling.proofs.Laying.{image-laid}
 use Rattle.doubling.proofs.writing.write_image.Statement.{statement}
