@@ -1,6 +1,6 @@
 -- The theorems. In `Examples`: examples. In `Gates`: mux-composed, gates-monotone. In `Accepted`: when-accepted. In `Unchanged`: unchanged.
 -- In `Verdicts`: verdicts, first-flows. In `Steps`: run-is-steps.
--- In `Pairing`: doubled-checks, doubling-writes, doubled-reads, demand2, doubled-unseen. In `TwoRun`: demand3.
+-- In `DoubledImage`: doubled-checks, doubling-writes, doubled-reads, doubled-placed, doubled-unseen. In `Pairing`: demand2. In `TwoRun`: demand3.
 pub mod Examples
 pub mod Gates
 pub mod Accepted
@@ -8,5 +8,6 @@ pub mod Unchanged
 pub mod Verdicts
 pub mod Steps
 pub mod History
+pub mod DoubledImage
 pub mod Pairing
 pub mod TwoRun

@@ -4,28 +4,20 @@ use mathlib.Core.Path.{_≡_, refl}
 use mathlib.Core.List.{List, [], _∷_, Forall₂, Forall₂·nil, Forall₂·cons}
 use mathlib.Core.Option.{Option, none, some}
 use native.Mathlib.Omega.{arith}
-use lib.Dec.{lit<}
 use lib.ListN.{length}
 use Rattle.netlist.specs.Image.{sizesOf, netsOf}
 use Rattle.netlist.specs.declared.answer.Refusal.{Refusal}
-use Rattle.netlist.proofs.Pairs.{pairs-append, pairs-getD, pairs-map}
-use Rattle.netlist.proofs.Checked.{Checked, check-none, length-nets}
+use Rattle.netlist.proofs.Pairs.{pairs-append, pairs-map}
+use Rattle.netlist.proofs.Checked.{Checked, check-none}
 use Rattle.tracker.specs.Cycle.{Cycle}
 use Rattle.tracker.specs.Calls.{starts, powerUpOf, asStep, stepRefusal, runRefusal}
 use Rattle.tracker.proofs.Calls.{IsState, step-none, run-none, starts-state, powered-up, cycle-state, run-state}
 use Rattle.doubling.specs.Doubled.{doubledSize, doubledImage, split}
-use Rattle.doubling.proofs.Positions.{value-register, mark-register, outs-free}
-use Rattle.doubling.proofs.Checks.{doubled-sizes, doubled-nets, doubled-checked, doubled-bytes, double-none, double-accepted}
+use Rattle.doubling.proofs.Checks.{doubled-sizes, double-none, double-accepted}
 use Rattle.doubling.proofs.Runs.{Doubles, state-doubles, ready-again, cycle-doubles, cycles-double, power-up-again}
 use Rattle.claims.specs.History.{Call, refusalOf, callResult, history, accepted, cyclesIn, Finished, AllFinished}
-use Rattle.claims.specs.Pairing.{Again, step-again, run-again, shown, Shows, Paired, DoubledChecks, DoublingWrites, DoubledReadsAll, Demand2, DoubledUnseen}
+use Rattle.claims.specs.Pairing.{Again, step-again, run-again, shown, Shows, Paired, Demand2}
 use Rattle.claims.proofs.History.{made-refused, made-step, made-run, accepted-none, accepted-some}
-
-pub doubled-checks : DoubledChecks
-doubled-checks s h few = check-none (doubledImage s) .1 (doubled-checked s (check-none s .0 h) few)
-
-pub doubling-writes : DoublingWrites
-doubling-writes = double-accepted
 
 doubles-show : (s : List ℕ) (c c′ : Cycle) → Doubles s c c′ → Shows s (doubledImage s) (asStep c) (asStep c′)
 unfolding shown asStep
@@ -122,21 +114,3 @@ demand2 s h few buf l =
     let c = check-none s .0 h in
     let e = double-accepted s buf (double-none s buf .1 (c, few, l)) in
     record { written = rw e; paired = rw e (pairs s c few) }
-
-pub doubled-reads : DoubledReadsAll
-doubled-reads s h few =
-    record {
-      nets = doubled-nets s;
-      bytes = λ p. pairs-getD p 0 (lit< tt) (doubled-bytes s (check-none s .0 h) few);
-    }
-
--- what no run shows
-pub doubled-unseen : DoubledUnseen
-doubled-unseen s =
-    let e = doubled-nets s in
-    let l = length-nets s in
-    record {
-      outs = rw e (outs-free (netsOf s));
-      values = λ i h k. rw e (value-register (netsOf s) i (omega arith) k);
-      marks = λ i h k. rw e (mark-register (netsOf s) i (omega arith) k);
-    }

@@ -6,5 +6,6 @@ pub mod Unchanged
 pub mod Verdicts
 pub mod Steps
 pub mod History
+pub mod DoubledImage
 pub mod Pairing
 pub mod TwoRun

@@ -56,6 +56,11 @@ module _ {s : List ℕ} (c : Checked s) where
   pub start-positive : (i : ℕ) → 0 < valueNet (netsOf s) (i + 1)
   start-positive i = later (c .nets) (omega (arith, c .some-nets, length-nets s)) i
 
+  -- a group ends with its mark net
+  pub mark-end : (i : ℕ) → markNet (netsOf s) i + 1 ≡ valueNet (netsOf s) (i + 1)
+  unfolding markNet valueNet
+  mark-end i = rw (add-one i) (let h = rw (add-one i) at (start-positive i) in omega (arith, h))
+
   -- one net further
   pub next-start : {n : ℕ} (i : ℕ) → n ≡ sizesOf s .nets → i < n → valueNet (netsOf s) (i + 1) ≡ valueNet (netsOf s) i + groupLength (kindAt s i)
   unfolding netAt
