@@ -1,8 +1,10 @@
 -- Where the groups of the doubled netlist stand, and that each of its nets passes.
 use Prim.Native.Nat.{ℕ, zero, suc, _+_, _≤_, _<_}
+use mathlib.Core.Logic.{_⊎_, inl, inr}
 use mathlib.Core.Path.{_≡_, refl, ap, ap₂, sym, _∙_, subst}
 use mathlib.Core.List.{List, [], _∷_, _++_, append-assoc, Forall₂, Forall₂·nil, Forall₂·cons}
 use mathlib.Core.Bool.{Bool, _&&_, _||_, not}
+use native.Mathlib.Decide.{decLt}
 use native.Mathlib.Omega.{arith}
 use native.Mathlib.Nat.{zero-add, add-zero}
 use native.Mathlib.Numerals.{add-one}
@@ -17,6 +19,9 @@ use Rattle.gates.proofs.Entries.{entry}
 use Rattle.netlist.proofs.Checked.{kind-most, Passes, is-const, is-input, is-reg, is-not, is-and, is-or, is-xor, is-mux, is-out, AllPass, nil, cons}
 use Rattle.netlist.proofs.Encoding.{nothing}
 use Rattle.doubling.specs.Doubled.{groupLengths, groupLength, doubledSize, valueNet, markNet, groupOf, groupAt, groupsFrom, doubledNets}
+
+pub below-or : (j i : ℕ) → j < suc i → (j < i) ⊎ (j ≡ i)
+below-or j i h = elim (decLt j i) [ yes k ↦ inl k | no k ↦ inr (omega arith) ]
 
 -- every group has two to eight nets, by one test of the table
 lengths-test : ℕ → ℕ → Bool

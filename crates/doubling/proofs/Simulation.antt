@@ -3,10 +3,9 @@ use Prim.Native.Nat.{ℕ, zero, suc, _+_, _*_, _-_, _/_, _%_, _≤_, _<_}
 use mathlib.Core.Path.{_≡_, refl, ap, ap₂, sym, _∙_, subst}
 use mathlib.Core.List.{List, [], _∷_, _++_, map, append-assoc, Forall₂, Forall₂·nil, Forall₂·cons}
 use mathlib.Core.Bool.{Bool, true, false, cond}
-use mathlib.Core.Logic.{_⊎_, inl, inr}
+use mathlib.Core.Logic.{inl, inr}
 use native.Mathlib.Omega.{arith}
 use native.Mathlib.Numerals.{add-one}
-use native.Mathlib.Decide.{decLt}
 use native.Mathlib.Nat.{add-zero}
 use lib.Dec.{eqb, lit≤}
 use lib.ListN.{length, getD, take, drop, length-append, List·getD-append}
@@ -21,7 +20,7 @@ use Rattle.netlist.proofs.Checked.{Passes, is-const, is-input, is-reg, is-not, 
 use Rattle.tracker.specs.Cycle.{Walk, pinByte, netByte, past, walk, bytesOf, outputsFrom, registers, clocked, Cycle, cycleOf}
 use Rattle.tracker.specs.Calls.{start, starts}
 use Rattle.doubling.specs.Doubled.{groupLength, groupLengths, doubledSize, valueNet, markNet, groupOf, groupAt, groupsFrom, doubledNets, split}
-use Rattle.doubling.proofs.Positions.{Laid, end, next, laid, group-length, value-below, mark-below, mark-second}
+use Rattle.doubling.proofs.Positions.{below-or, Laid, end, next, laid, group-length, value-below, mark-below, mark-second}
 use Rattle.doubling.proofs.Groups.{at, past-gate, walked-all, comes-length, Splits, byte-splits, const-splits, Bits, Group, not-group, and-group, or-group, xor-group, mux-group, out-group}
 
 -- SPLIT BYTES
@@ -89,9 +88,6 @@ pub record Follows (xs : List Net) (i : ℕ) (w d : Walk) : Type 0 where
   pub state : d .state ≡ split (w .state)
   pub row-codes : Codes (w .row)
   pub state-codes : Codes (w .state)
-
-below-or : (j i : ℕ) → j < suc i → (j < i) ⊎ (j ≡ i)
-below-or j i h = elim (decLt j i) [ yes k ↦ inl k | no k ↦ inr (omega arith) ]
 
 module _ {xs : List Net} {n i : ℕ} {w d : Walk} (ps : AllPass n 0 xs) (l : i < length xs) (f : Follows xs i w d)
     (x : ℕ) (es r s r′ s′ : List ℕ) (sp : Splits x es) (m : valueNet xs (suc i) ≡ valueNet xs i + length es) where

@@ -1,6 +1,6 @@
 -- The group lengths summed net by net: each start is that of the definition, and fits a u16.
-use Prim.Native.Nat.{ℕ, zero, suc, _+_, _*_, _-_, _≤_, _<_}
-use mathlib.Core.Logic.{_⊎_, inl, inr}
+use Prim.Native.Nat.{ℕ, _+_, _*_, _-_, _≤_, _<_}
+use mathlib.Core.Logic.{inl, inr}
 use mathlib.Core.Path.{_≡_, refl, _∙_}
 use mathlib.Core.List.{List}
 use native.Mathlib.Numerals.{add-one}
@@ -15,7 +15,7 @@ use Rattle.netlist.proofs.Checked.{Passes, is-const, is-input, is-reg, is-not, 
 use Rattle.netlist.proofs.Encoding.{nothing}
 use Rattle.doubling.specs.Doubled.{groupLengths, groupLength, doubledSize, valueNet, markNet, groupBy, groupOf, groupAt}
 use Rattle.doubling.specs.Passes.{Starts}
-use Rattle.doubling.proofs.Positions.{two-to-eight, two-or-more, value-next, value-up}
+use Rattle.doubling.proofs.Positions.{below-or, two-to-eight, two-or-more, value-next, value-up}
 
 -- THE LARGEST SIZE
 -- net 0 has no pin below it: it is a CONST, an INPUT or a REG
@@ -79,15 +79,10 @@ start-zero xs = refl
 pub summed-begins : (xs : List Net) → Summed (replicate 8193 0) xs 0
 summed-begins xs j h = let e : j ≡ 0 = omega arith in rw (e, start-zero xs)
 
-upto-or : (j i : ℕ) → j ≤ i + 1 → (j ≤ i) ⊎ (j ≡ i + 1)
-upto-or zero i h = inl (omega arith)
-upto-or (suc j) zero h = inr (omega arith)
-upto-or (suc j) (suc i) h = elim (upto-or j i (omega arith)) [ inl k ↦ inl (omega arith) | inr k ↦ inr (omega arith) ]
-
 pub summed-next : (t : List ℕ) (xs : List Net) (i v : ℕ) → Summed t xs i → i + 1 < length t → v ≡ valueNet xs (i + 1) → Summed (set t (i + 1) v) xs (i + 1)
 summed-next t xs i v h l e j k =
-    elim (upto-or j i k) [
-      | inl m ↦ getD-set-other t (i + 1) j v 0 (λ f. omega arith) ∙ h j m
+    elim (below-or j (i + 1) (omega arith)) [
+      | inl m ↦ getD-set-other t (i + 1) j v 0 (λ f. omega arith) ∙ h j (omega arith)
       | inr m ↦ rw m (getD-set-same t (i + 1) v 0 l ∙ e)
     ]
 

@@ -1,4 +1,4 @@
-// Doubling.
+// The call that doubles an image into a lent buffer.
 use crate::lengths::starts_of;
 use crate::writing::write_image;
 use netlist::Outcome;

@@ -10,7 +10,7 @@ pub struct Pair {
 }
 
 fn wide(x: u16) -> usize
-    ensures { λ r. ⌜ (r ≡ x) × (r < 65536) ⌝ }
+    ensures { λ r. ⌜ r ≡ x ⌝ }
 {
     x as usize
 }

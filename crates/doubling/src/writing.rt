@@ -13,20 +13,20 @@ ghost use lib.ListN.{length, getD, take};
 ghost use Rattle.netlist.specs.Image.{sizesOf, net, kindAt, netAt, netsOf};
 ghost use Rattle.netlist.specs.Check.{checkRefusal};
 ghost use Rattle.netlist.specs.Writing.{Fits, putNets};
-ghost use Rattle.doubling.specs.Doubled.{groupLength, groupAt, doubledSize, doubledNets, doubledImage};
+ghost use Rattle.doubling.specs.Doubled.{groupLength, groupAt, doubledSize, valueNet, doubledNets, doubledImage};
 ghost use Rattle.doubling.specs.Passes.{Starts};
 
-// The group of net i.
-fn group_at(image: &[u8], n: usize, starts: &[u16; 8193], i: usize) -> [Net; 8]
+// The group of net i, whose first net is v.
+fn group_at(image: &[u8], n: usize, starts: &[u16; 8193], i: usize, v: usize) -> [Net; 8]
     requires { ⌜ checkRefusal (now image) ≡ none ⌝ }
     requires { ⌜ (n ≡ sizesOf (now image) .nets) × (i < n) × Starts (now starts) (netsOf (now image)) ⌝ }
+    requires { ⌜ v ≡ valueNet (netsOf (now image)) i ⌝ }
     ensures { λ r. ⌜ take (groupLength (kindAt (now (image .entry)) i)) r
         ≡ groupAt (netsOf (now (image .entry))) i (netAt (now (image .entry)) n i) ⌝ }
 {
-    let own = pair_of(starts, i);
     let x = net_at(image, n, i);
     group_of(
-        own.value,
+        v,
         x,
         pair_of(starts, x.a),
         pair_of(starts, x.b),
@@ -58,7 +58,7 @@ fn put_groups(d: &mut [u8], size: usize, image: &[u8], n: usize, starts: &[u16; 
     let mut i: usize = 0;
     while i < n {
         let own = pair_of(starts, i);
-        let group = group_at(image, n, starts, i);
+        let group = group_at(image, n, starts, i, own.value);
         put_group(d, size, own.value, own.mark + 1 - own.value, group);
         i += 1;
     }

@@ -14,32 +14,34 @@ checked : (c : tie.Start) → Checked (c .args .image .now)
 checked c = check-none _ .0 (c .pre .0)
 
 few : (c : tie.Start) → c .args .i < 8192
-few c = omega (arith, checked c .few-nets, c .pre .1 .0, c .pre .1 .1)
+few c = omega (arith, checked c .few-nets, c .pre .1 .0 .0, c .pre .1 .0 .1)
 
 -- what `pair_of` asks, at any net
 asked : (c : tie.Start) (i : ℕ) → i < 8192 → (i < 8192) × (0 < getD (c .args .starts .now) (i + 1) 0)
-asked c i h = (h, rw (c .pre .1 .2 (i + 1) (omega arith)) (start-positive (checked c) i))
+asked c i h = (h, rw (c .pre .1 .0 .2 (i + 1) (omega arith)) (start-positive (checked c) i))
 
 -- the net's operands are below 8,192, pins or not
 small : (c : tie.After-net-at) → Small (c .net-at .result)
 small c =
-    let begin = c .before .before .before in
+    let begin = c .before .before in
+    let n = begin .pre .1 .0 in
     rw (c .net-at .ensures)
-    (operands-small (omega (arith, checked begin .few-nets, begin .pre .1 .0)) (few begin) (net-passes (checked begin) (begin .pre .1 .0) (begin .args .i) (begin .pre .1 .1)))
+    (operands-small (omega (arith, checked begin .few-nets, n .0)) (few begin) (net-passes (checked begin) (n .0) (begin .args .i) (n .1)))
 
 -- what `pair_of` then gives
 pair : (c : tie.Start) (i : ℕ) → i < 8192
     → (getD (c .args .starts .now) i 0 ≡ valueNet (netsOf (c .args .image .now)) i)
     × (getD (c .args .starts .now) (i + 1) 0 - 1 ≡ markNet (netsOf (c .args .image .now)) i)
-pair c i h = pair-is (c .args .starts .now) (netsOf (c .args .image .now)) (c .pre .1 .2) i h
+pair c i h = pair-is (c .args .starts .now) (netsOf (c .args .image .now)) (c .pre .1 .0 .2) i h
 
 group-of-requires : tie.Need-group-of-requires
 group-of-requires c κs =
     let read = c .before .before .before in
-    let begin = read .before .before .before in
+    let begin = read .before .before in
+    let n = begin .pre .1 .0 in
     let i = begin .args .i in (
-      omega (arith, read .before .pair-of .ensures .0, pair begin i (few begin) .0, starts-fit (checked begin) i),
-      rw (read .net-at .ensures) (kind-most (net-passes (checked begin) (begin .pre .1 .0) i (begin .pre .1 .1))),
+      omega (arith, begin .pre .1 .1, starts-fit (checked begin) i),
+      rw (read .net-at .ensures) (kind-most (net-passes (checked begin) (n .0) i (n .1))),
     )
 
 returns : tie.Need-returns
@@ -49,28 +51,26 @@ returns c =
     let second = third .before in
     let first = second .before in
     let read = first .before in
-    let begin = read .before .before .before in
+    let begin = read .before .before in
     let x = read .net-at .result in
-    let own = read .before .pair-of .ensures .0 ∙ pair begin (begin .args .i) (few begin) .0 in
     let a = pair begin (x .a) (small read .a) in
     let b = pair begin (x .b) (small read .b) in
     let k = pair begin (x .c) (small read .c) in
     let is : take (groupLength (x .kind)) (c .group-of .result) ≡ groupAt (netsOf (begin .args .image .now)) (begin .args .i) x =
     c .group-of .ensures
-    ∙ group-pinned _ _ x own
-    (first .pair-of2 .ensures .0 ∙ a .0) (first .pair-of2 .ensures .1 ∙ a .1)
-    (second .pair-of3 .ensures .0 ∙ b .0) (second .pair-of3 .ensures .1 ∙ b .1)
-    (third .pair-of4 .ensures .0 ∙ k .0) (third .pair-of4 .ensures .1 ∙ k .1) in
+    ∙ group-pinned _ _ x (begin .pre .1 .1)
+    (first .pair-of .ensures .0 ∙ a .0) (first .pair-of .ensures .1 ∙ a .1)
+    (second .pair-of2 .ensures .0 ∙ b .0) (second .pair-of2 .ensures .1 ∙ b .1)
+    (third .pair-of3 .ensures .0 ∙ k .0) (third .pair-of3 .ensures .1 ∙ k .1) in
     rw (read .net-at .ensures) at is
 
 pub group-at-spec : {M : Type 1} → statement M
 group-at-spec =
     tie.close
     (tie.spec
-    (λ c κs. asked (c .before) _ (few (c .before)))
-    (λ c κs. (c .before .before .pre .1 .1, rw (c .before .before .pre .1 .0) (checked (c .before .before) .exact)))
-    (λ c κs. asked (c .before .before .before) _ (small c .a))
-    (λ c κs. asked (c .before .before .before .before) _ (small (c .before) .b))
-    (λ c κs. asked (c .before .before .before .before .before) _ (small (c .before .before) .c))
+    (λ c κs. (c .before .pre .1 .0 .1, rw (c .before .pre .1 .0 .0) (checked (c .before) .exact)))
+    (λ c κs. asked (c .before .before) _ (small c .a))
+    (λ c κs. asked (c .before .before .before) _ (small (c .before) .b))
+    (λ c κs. asked (c .before .before .before .before) _ (small (c .before .before) .c))
     group-of-requires
     returns)

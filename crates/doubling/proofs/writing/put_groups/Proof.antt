@@ -41,12 +41,6 @@ pair-of-requires c κs =
     let few : c .before .loop .i < 8192 = omega (arith, c .loop-test .taken, begin .pre .1 .0 .0, checked begin .few-nets) in
     (few, rw (begin .pre .1 .0 .1 (c .before .loop .i + 1) (omega arith)) (start-positive (checked begin) (c .before .loop .i)))
 
-group-at-requires : tie.Need-group-at-requires Inv-loop μ-loop
-group-at-requires c κs =
-    let turn = c .before in
-    let begin = turn .before .before .before .before in
-    (begin .pre .0, (begin .pre .1 .0 .0, turn .loop-test .taken, begin .pre .1 .0 .1))
-
 -- the group's first net, and its length
 first : (c : tie.After-pair-of Inv-loop μ-loop)
     → let at = c .before .before in
@@ -55,6 +49,12 @@ first c =
     let at = c .before .before in
     let begin = at .before .before .before in
     c .pair-of .ensures .0 ∙ begin .pre .1 .0 .1 (at .loop .i) (omega (arith, c .before .loop-test .taken, begin .pre .1 .0 .0, checked begin .few-nets))
+
+group-at-requires : tie.Need-group-at-requires Inv-loop μ-loop
+group-at-requires c κs =
+    let turn = c .before in
+    let begin = turn .before .before .before .before in
+    (begin .pre .0, ((begin .pre .1 .0 .0, turn .loop-test .taken, begin .pre .1 .0 .1), first c))
 
 end : (c : tie.After-pair-of Inv-loop μ-loop)
     → let at = c .before .before in
