@@ -1,4 +1,4 @@
--- The doubled image: what is read from it, where its groups stand, and what no run shows of it.
+-- The doubled image: what is read from it, where its groups stand, and what no run on plain rows shows of it.
 use native.Mathlib.Numerals.{add-one}
 use native.Mathlib.Omega.{arith}
 use lib.Dec.{lit<}
@@ -38,7 +38,7 @@ doubled-placed s h =
       groups = λ i j l m. rw (doubled-nets s) (group-net xs i j (omega (arith, long)) m);
     }
 
--- what no run shows
+-- what no run on plain rows shows
 pub doubled-unseen : DoubledUnseen
 doubled-unseen s =
     let e = doubled-nets s in

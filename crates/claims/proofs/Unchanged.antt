@@ -36,7 +36,7 @@ unfolding asRun
 run s st k rows outputs r none e h = absurd (not-refused (rw (run-accepted s st k rows outputs e) at h))
 run s st k rows outputs r (some q) e h = rw (run-refused s st k rows outputs q e) (refl, refl)
 
-double : (s buf : List ℕ) (r : Refusal) (o : Option Refusal) → doubleRefusal s buf ≡ o → doubleOf s buf .refusal ≡ some r → doubleOf s buf .image ≡ buf
+double : (s buf : List ℕ) (r : Refusal) (o : Option Refusal) → doubleRefusal s buf ≡ o → doubleOf s buf .refusal ≡ some r → doubleOf s buf .buffer ≡ buf
 double s buf r none e h = absurd (not-some (rw (double-accepted s buf e) at h))
 double s buf r (some q) e h = rw (double-refused s buf q e)
 

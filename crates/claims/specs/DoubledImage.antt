@@ -1,4 +1,4 @@
--- The doubled image: what doubling writes passes checking, is read back as the doubled netlist, has its groups in place, and what no run shows of it.
+-- The doubled image: what doubling writes passes checking, is read back as the doubled netlist, has its groups in place, and what no run on plain rows shows of it.
 use Prim.Native.Nat.{ℕ, _+_, _≤_, _<_}
 use mathlib.Core.Path.{_≡_}
 use mathlib.Core.List.{List}
@@ -16,7 +16,7 @@ DoubledChecks = (s : List ℕ) → checkRefusal s ≡ none → doubledSize (nets
 
 -- so doubling, where it is accepted, writes the doubled image; proved as `doubling-writes`
 abbrev pub DoublingWrites : Type 0
-DoublingWrites = (s buf : List ℕ) → doubleRefusal s buf ≡ none → doubleOf s buf ≡ record { refusal = none; image = doubledImage s }
+DoublingWrites = (s buf : List ℕ) → doubleRefusal s buf ≡ none → doubleOf s buf ≡ record { refusal = none; buffer = doubledImage s }
 
 -- and what is read from the doubled image is the doubled netlist, of which every number is a byte; proved as `doubled-reads`
 pub record DoubledReads (s : List ℕ) : Type 0 where
@@ -45,7 +45,7 @@ pub record Placed (s : List ℕ) : Type 0 where
 abbrev pub DoubledPlaced : Type 0
 DoubledPlaced = (s : List ℕ) → checkRefusal s ≡ none → Placed s
 
--- WHAT NO RUN SHOWS: the policy of an OUT, and a start that is not given
+-- WHAT NO RUN ON PLAIN ROWS SHOWS: the policy of an OUT, and a start that is not given
 
 -- every OUT of the doubled netlist is free; of a register's two, the first keeps its start, and the second starts with 0
 pub record Unseen (s : List ℕ) : Type 0 where

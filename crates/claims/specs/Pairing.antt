@@ -34,7 +34,7 @@ pub record Paired (s d a b : List ℕ) (cs cs′ : List Call) : Type 0 where
 pub record DoublingPairs (s buf : List ℕ) : Type 0 where
   pub written : doubleOf s buf .refusal ≡ none
   pub paired :
-      let d = doubleOf s buf .image in
+      let d = doubleOf s buf .buffer in
       (a b : List ℕ) → length a ≡ sizesOf s .registers → length b ≡ sizesOf d .registers
       → (cs cs′ : List Call) → Forall₂ (Again d) (accepted s (powerUpOf s a .state) cs) cs′
       → Paired s d a b cs cs′

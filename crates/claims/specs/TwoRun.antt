@@ -65,7 +65,7 @@ pub record TwoRun (s : List ℕ) (cs ds : List Call) : Type 0 where
       → SameCalls s (powerUpOf s a .state) (powerUpOf s b .state) cs ds
   pub doubled :
       doubledSize (netsOf s) ≤ 8192 → (buf : List ℕ) → length buf ≡ 8 + 7 * doubledSize (netsOf s)
-      → let d = doubleOf s buf .image in
+      → let d = doubleOf s buf .buffer in
       (a b a′ b′ : List ℕ) → length a ≡ sizesOf s .registers → length b ≡ sizesOf s .registers
       → length a′ ≡ sizesOf d .registers → length b′ ≡ sizesOf d .registers
       → (cs′ ds′ : List Call)

@@ -1,4 +1,4 @@
--- A call that turns back changes no lent byte, nor does doubling: 17, which would set its buffer to 0, is never given.
+-- A call that turns back changes no lent byte. This holds of doubling too, since 17, which would set its buffer to 0, is never given.
 use Prim.Native.Nat.{ℕ}
 use mathlib.Core.Path.{_≡_}
 use mathlib.Core.List.{List}
@@ -16,4 +16,4 @@ pub record Unchanged : Type 0 where
   pub run :
       (s st : List ℕ) (k : ℕ) (rows outputs : List ℕ) (r : Refusal) → runOf s st k rows outputs .answer ≡ refused r
       → (runOf s st k rows outputs .state ≡ st) × (runOf s st k rows outputs .outputs ≡ outputs)
-  pub double : (s buf : List ℕ) (r : Refusal) → doubleOf s buf .refusal ≡ some r → doubleOf s buf .image ≡ buf
+  pub double : (s buf : List ℕ) (r : Refusal) → doubleOf s buf .refusal ≡ some r → doubleOf s buf .buffer ≡ buf

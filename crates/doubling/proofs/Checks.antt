@@ -15,7 +15,7 @@ use Rattle.netlist.specs.Check.{refusal, checkRefusal}
 use Rattle.netlist.proofs.Refusals.{accepted}
 use Rattle.netlist.proofs.Checked.{Passes, is-const, is-input, is-reg, is-not, is-and, is-or, is-xor, is-mux, is-out, AllPass, nil, cons, Checked, check-none, length-nets, count-most}
 use Rattle.netlist.proofs.Encoding.{encode-length, sizes-back, nets-back, Bytes, encode-bytes}
-use Rattle.doubling.specs.Doubled.{doubledSize, valueNet, markNet, groupOf, groupAt, groupsFrom, doubledNets, doubledSizes, doubledImage, doubleRefusal, doubleOf}
+use Rattle.doubling.specs.Doubled.{doubledSize, valueNet, markNet, groupOf, groupAt, groupsFrom, doubledNets, pairedSizes, doubledImage, doubleRefusal, doubleOf}
 use Rattle.doubling.proofs.Positions.{two-or-more, doubled-length, doubled-passes}
 
 -- the kinds that are counted
@@ -58,7 +58,7 @@ size-positive nil h = absurd (omega arith)
 size-positive (cons p ps) h = omega (arith, two-or-more p)
 
 -- what is read back from the doubled image
-pub doubled-sizes : (s : List ℕ) → sizesOf (doubledImage s) ≡ doubledSizes s
+pub doubled-sizes : (s : List ℕ) → sizesOf (doubledImage s) ≡ pairedSizes s
 unfolding doubledImage
 doubled-sizes s = sizes-back _ _
 
@@ -102,20 +102,20 @@ unfolding doubleRefusal
 double-none s buf =
     (λ h. let t = simp (accepted, check-none) at h in (t .0, t .1 .0, t .1 .1), λ h. simp (accepted, check-none) (h .0, (h .1, h .2)))
 
-pub double-refused : (s buf : List ℕ) (r : Refusal) → doubleRefusal s buf ≡ some r → doubleOf s buf ≡ record { refusal = some r; image = buf }
+pub double-refused : (s buf : List ℕ) (r : Refusal) → doubleRefusal s buf ≡ some r → doubleOf s buf ≡ record { refusal = some r; buffer = buf }
 unfolding doubleOf
 double-refused s buf r h = rw (h, doubleOf)
 
 -- past its refusals, what is written is checked again
 module _ (s buf : List ℕ) (h : doubleRefusal s buf ≡ none) where
-  pub double-passed : checkRefusal (doubledImage s) ≡ none → doubleOf s buf ≡ record { refusal = none; image = doubledImage s }
+  pub double-passed : checkRefusal (doubledImage s) ≡ none → doubleOf s buf ≡ record { refusal = none; buffer = doubledImage s }
   unfolding doubleOf
   double-passed e = rw (h, doubleOf) (rw e)
 
-  pub double-failed : (r : Refusal) → checkRefusal (doubledImage s) ≡ some r → doubleOf s buf ≡ record { refusal = some (refusal 17 0); image = replicate (length buf) 0 }
+  pub double-failed : (r : Refusal) → checkRefusal (doubledImage s) ≡ some r → doubleOf s buf ≡ record { refusal = some (refusal 17 0); buffer = replicate (length buf) 0 }
   unfolding doubleOf
   double-failed r e = rw (h, doubleOf) (rw e)
 
   -- and always passes: 17 is never given
-  pub double-accepted : doubleOf s buf ≡ record { refusal = none; image = doubledImage s }
+  pub double-accepted : doubleOf s buf ≡ record { refusal = none; buffer = doubledImage s }
   double-accepted = let t = double-none s buf .0 h in double-passed (check-none (doubledImage s) .1 (doubled-checked s (t .0) (t .1)))

@@ -14,7 +14,7 @@ use Rattle.netlist.proofs.Nets.{netsLeft, nets-next, net-in}
 use Rattle.netlist.proofs.Checked.{Passes, AllPass, nil, cons, operands-small, Checked, length-nets}
 use Rattle.netlist.proofs.Encoding.{nothing}
 use Rattle.netlist.proofs.Written.{puts-append, written}
-use Rattle.doubling.specs.Doubled.{groupLength, groupAt, groupsFrom, doubledSize, valueNet, doubledNets, doubledSizes, doubledImage}
+use Rattle.doubling.specs.Doubled.{groupLength, groupAt, groupsFrom, doubledSize, valueNet, doubledNets, pairedSizes, doubledImage}
 use Rattle.doubling.proofs.Positions.{group-length, group-net, doubled-length, doubled-passes, value-up}
 use Rattle.doubling.proofs.Sums.{next-start}
 
@@ -57,8 +57,8 @@ module _ {s : List ℕ} (c : Checked s) {n : ℕ} (e : n ≡ sizesOf s .nets) (i
 
 -- sizes and all groups make up the doubled image
 pub image-laid : (s d : List ℕ) → length d ≡ 8 + 7 * doubledSize (netsOf s)
-    → putNets (sets d 0 (encode (doubledSizes s) [])) (doubledSize (netsOf s)) 0 (doubledNets (netsOf s)) ≡ doubledImage s
+    → putNets (sets d 0 (encode (pairedSizes s) [])) (doubledSize (netsOf s)) 0 (doubledNets (netsOf s)) ≡ doubledImage s
 unfolding doubledImage
 image-laid s d h =
     let long = doubled-length (netsOf s) in
-    rw long at (written d (doubledSizes s) (doubledNets (netsOf s)) (rw long h))
+    rw long at (written d (pairedSizes s) (doubledNets (netsOf s)) (rw long h))

@@ -6,4 +6,4 @@ use Rattle.netlist.specs.Check.{refusalIn}
 use Rattle.doubling.specs.Doubled.{Doubling}
 
 abbrev pub doubled : Outcome → (buffer : List ℕ) → Doubling
-doubled o buffer = record { refusal = refusalIn o; image = buffer }
+doubled o buffer = record { refusal = refusalIn o; buffer = buffer }

@@ -88,7 +88,7 @@ muxGroup v va ta vb tb vc tc =
 abbrev pub outGroup : (va ta : ℕ) → List Net
 outGroup va ta = net OUT va 0 0 ∷ net OUT ta 0 0 ∷ []
 
--- the group of a net x by its kind
+-- the group of a net x: of the groups for kinds 0 to 8, in this order, the one of its kind
 abbrev pub groupBy : (v : ℕ) → Net → (va ta vb tb vc tc : ℕ) → List Net
 groupBy v x va ta vb tb vc tc =
     getD
@@ -104,7 +104,7 @@ groupBy v x va ta vb tb vc tc =
     ∷ [])
     (x .kind) []
 
--- where val and mrk give the value and mark nets of its pins
+-- the group of x, where val and mrk give the value and mark nets of its pins
 unfoldable pub groupOf : (v : ℕ) → Net → (val mrk : ℕ → ℕ) → List Net
 groupOf v x val mrk = groupBy v x (val (x .a)) (mrk (x .a)) (val (x .b)) (mrk (x .b)) (val (x .c)) (mrk (x .c))
 
@@ -121,8 +121,8 @@ unfoldable pub doubledNets : List Net → List Net
 doubledNets xs = groupsFrom xs 0 xs
 
 -- inputs, registers and outputs pair
-abbrev pub doubledSizes : List ℕ → Sizes
-doubledSizes s =
+abbrev pub pairedSizes : List ℕ → Sizes
+pairedSizes s =
     record {
       nets = doubledSize (netsOf s);
       inputs = 2 * sizesOf s .inputs;
@@ -131,12 +131,12 @@ doubledSizes s =
     }
 
 unfoldable pub doubledImage : List ℕ → List ℕ
-doubledImage s = encode (doubledSizes s) (doubledNets (netsOf s))
+doubledImage s = encode (pairedSizes s) (doubledNets (netsOf s))
 
 -- doubling: the refusal that it gives, or none, and the lent buffer
 pub record Doubling : Type 0 where
   pub refusal : Option Refusal
-  pub image : List ℕ
+  pub buffer : List ℕ
 
 unfoldable pub doubleRefusal : (s buf : List ℕ) → Option Refusal
 doubleRefusal s buf =
@@ -150,10 +150,10 @@ doubleOf s buf =
     elim (doubleRefusal s buf) [
       | none ↦
           elim (checkRefusal (doubledImage s)) [
-            | none ↦ record { refusal = none; image = doubledImage s }
-            | some r ↦ record { refusal = some (refusal 17 0); image = replicate (length buf) 0 }
+            | none ↦ record { refusal = none; buffer = doubledImage s }
+            | some r ↦ record { refusal = some (refusal 17 0); buffer = replicate (length buf) 0 }
           ]
-      | some r ↦ record { refusal = some r; image = buf }
+      | some r ↦ record { refusal = some r; buffer = buf }
     ]
 
 -- how the source's bytes stand in the doubled netlist: each byte v + 2 × t as the two bytes v, t

@@ -28,7 +28,7 @@ fn room_refusal(size: usize, length: usize) -> Outcome
 }
 
 // Every byte is set to 0.
-fn clear(d: &mut [u8])
+fn set_to_0(d: &mut [u8])
     ensures { λ r. ⌜ now (d .exit) ≡ replicate (length (now (d .entry))) 0 ⌝ }
 {
     let mut i: usize = 0;
@@ -57,7 +57,7 @@ pub fn double(image: &[u8], buffer: &mut [u8]) -> Outcome
     write_image(buffer, size, image, z, &starts);
     let q = check(buffer);
     if let Outcome::Refused(_) = q {
-        clear(buffer);
+        set_to_0(buffer);
         return refused(17, 0);
     }
     Outcome::Done

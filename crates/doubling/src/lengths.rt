@@ -10,7 +10,7 @@ ghost use Rattle.doubling.specs.Passes.{Starts};
 // The group lengths for kinds 0 to 8.
 const GROUP_LENGTHS: [u16; 9] = [2, 2, 2, 2, 6, 8, 2, 7, 2];
 
-// The table by value.
+// The table by value. It is taken once a call, since a constant is copied to the stack wherever it is named.
 fn group_lengths() -> [u16; 9]
     ensures { λ r. ⌜ r ≡ groupLengths ⌝ }
 {
@@ -34,6 +34,7 @@ pub fn starts_of(image: &[u8], n: usize) -> [u16; 8193]
         i += 1;
         starts[i] = size;
     }
+    // Behind the last net too: an operand that is no pin is looked up like one, and may name no net.
     while i < 8192 {
         i += 1;
         starts[i] = size;

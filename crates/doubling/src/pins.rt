@@ -15,7 +15,7 @@ fn wide(x: u16) -> usize
     x as usize
 }
 
-// Those of net i, by the starts of the groups.
+// The value net and the mark net of net i: start i, and start i + 1 less 1.
 pub fn pair_of(starts: &[u16; 8193], i: usize) -> Pair
     requires { ⌜ (i < 8192) × (0 < getD (now starts) (i + 1) 0) ⌝ }
     ensures { λ r. ⌜ (r .value ≡ getD (now (starts .entry)) i 0) × (r .mark ≡ getD (now (starts .entry)) (i + 1) 0 - 1) ⌝ }

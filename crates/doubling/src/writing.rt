@@ -58,8 +58,9 @@ fn put_groups(d: &mut [u8], size: usize, image: &[u8], n: usize, starts: &[u16; 
     let mut i: usize = 0;
     while i < n {
         let own = pair_of(starts, i);
+        let length = own.mark + 1 - own.value;
         let group = group_at(image, n, starts, i, own.value);
-        put_group(d, size, own.value, own.mark + 1 - own.value, group);
+        put_group(d, size, own.value, length, group);
         i += 1;
     }
 }

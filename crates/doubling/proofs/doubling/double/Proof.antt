@@ -97,18 +97,18 @@ recheck c = c .check2 .ensures ∙ ap checkRefusal (c .before .before .before .b
 
 returns-3 : tie.Need-returns-3
 returns-3 c =
-    let clear = c .before .before .before in
-    let told = clear .before .before in
+    let cleared = c .before .before .before in
+    let told = cleared .before .before in
     let check = told .before .before in
     let write = check .before .before .before .before in
     let failed = double-failed _ _ (passed (write .before .before .before)) _ (sym (recheck check) ∙ ap refusalIn (told .enum-told3 .given .1)) in
-    rw (c .refused .ensures, clear .clear .ensures, write .write-image .kept .0) (sym failed)
+    rw (c .refused .ensures, cleared .set-to-0 .ensures, write .write-image .kept .0) (sym failed)
 
 same-length : tie.Need-same-length
 same-length c =
-    let clear = c .before .before .before in
-    let write = clear .before .before .before .before .before .before .before .before in
-    clear .clear .kept .0 ∙ write .write-image .kept .0
+    let cleared = c .before .before .before in
+    let write = cleared .before .before .before .before .before .before .before .before in
+    cleared .set-to-0 .kept .0 ∙ write .write-image .kept .0
 
 returns-4 : tie.Need-returns-4
 returns-4 c =

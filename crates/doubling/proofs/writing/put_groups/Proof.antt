@@ -50,12 +50,6 @@ first c =
     let begin = at .before .before .before in
     c .pair-of .ensures .0 ∙ begin .pre .1 .0 .1 (at .loop .i) (omega (arith, c .before .loop-test .taken, begin .pre .1 .0 .0, checked begin .few-nets))
 
-group-at-requires : tie.Need-group-at-requires Inv-loop μ-loop
-group-at-requires c κs =
-    let turn = c .before in
-    let begin = turn .before .before .before .before in
-    (begin .pre .0, ((begin .pre .1 .0 .0, turn .loop-test .taken, begin .pre .1 .0 .1), first c))
-
 end : (c : tie.After-pair-of Inv-loop μ-loop)
     → let at = c .before .before in
     let s = at .before .before .before .args .image .now in
@@ -69,16 +63,23 @@ end c =
     let start = begin .pre .1 .0 .1 (i + 1) (omega (arith, h, n, checked begin .few-nets)) in
     omega (arith, c .pair-of .ensures .1, start, start-positive (checked begin) i, next-start (checked begin) i n h)
 
-add-put-group : tie.Need-add-put-group Inv-loop μ-loop
-add-put-group c =
-    let own = c .before .before .before in
+add-length : tie.Need-add-length Inv-loop μ-loop
+add-length c =
+    let own = c .before in
     let at = own .before .before in
     let begin = at .before .before .before in
     let size = begin .pre .1 .1 in
     omega (arith, end own, group-ends (checked begin) (begin .pre .1 .0 .0) (at .loop .i) (own .before .loop-test .taken), size .0, size .1)
 
-sub-put-group : tie.Need-sub-put-group Inv-loop μ-loop
-sub-put-group c = let own = c .before .before .before .before in omega (arith, first own, end own)
+sub-length : tie.Need-sub-length Inv-loop μ-loop
+sub-length c = let own = c .before .before in omega (arith, first own, end own)
+
+group-at-requires : tie.Need-group-at-requires Inv-loop μ-loop
+group-at-requires c κs =
+    let own = c .before .before in
+    let turn = own .before in
+    let begin = turn .before .before .before .before in
+    (begin .pre .0, ((begin .pre .1 .0 .0, turn .loop-test .taken, begin .pre .1 .0 .1), first own))
 
 nets : (c : tie.After-pair-of Inv-loop μ-loop)
     → let at = c .before .before in
@@ -88,8 +89,8 @@ nets c = omega (arith, first c, end c)
 put-group-requires : tie.Need-put-group-requires Inv-loop μ-loop
 unfolding netAt
 put-group-requires c κs =
-    let made = c .before .before .before in
-    let own = made .before in
+    let made = c .before in
+    let own = made .before .before .before in
     let at = own .before .before in
     let begin = at .before .before .before in
     let s = begin .args .image .now in
@@ -111,8 +112,8 @@ put-group-requires c κs =
 loop-again : tie.Need-loop-again Inv-loop μ-loop
 loop-again c =
     let put = c .before .before in
-    let made = put .before .before .before .before in
-    let own = made .before in
+    let made = put .before .before in
+    let own = made .before .before .before in
     let at = own .before .before in
     let begin = at .before .before .before in
     let i = at .loop .i in
@@ -139,9 +140,9 @@ put-groups-spec =
     μ-loop
     loop-holds
     pair-of-requires
+    add-length
+    sub-length
     group-at-requires
-    add-put-group
-    sub-put-group
     put-group-requires
     (λ c. search needs)
     (λ c. search needs)

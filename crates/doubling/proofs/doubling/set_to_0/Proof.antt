@@ -1,12 +1,12 @@
--- `doubling::doubling::clear` meets its contract: to place i every byte is 0.
+-- `doubling::doubling::set_to_0` meets its contract: to place i every byte is 0.
 use Prim.Native.Nat.{suc, _+_, _-_, _≤_}
 use native.Mathlib.Omega.{arith}
 use mathlib.Core.Path.{_≡_, _∙_}
 use lib.ListN.{length, replicate, length-replicate}
 use borrow.Author.Needs.{needs}
 use Rattle.tracker.proofs.Filling.{Filled, fill-begins, fill-goes-on, fill-length, fill-ends}
-use Rattle.doubling.proofs.doubling.clear.Statement.{statement}
-use Rattle.doubling.proofs.doubling.clear.Tie as tie
+use Rattle.doubling.proofs.doubling.set_to_0.Statement.{statement}
+use Rattle.doubling.proofs.doubling.set_to_0.Tie as tie
 
 abbrev Inv-loop : tie.InvT-loop
 Inv-loop d₀ i₀ d i = (i ≤ length d₀) × Filled (replicate (length d₀) 0) d i (replicate (length d₀ - i) 0)
@@ -45,7 +45,7 @@ returns c =
     let e : length (at .before .args .d .now) - at .loop .i ≡ 0 = omega (arith, long at, c .loop-test .left) in
     fill-ends (rw e at (at .loop .inv .1))
 
-pub clear-spec : {M : Type 1} → statement M
-clear-spec =
+pub set-to-0-spec : {M : Type 1} → statement M
+set-to-0-spec =
     tie.close
     (tie.spec Inv-loop μ-loop loop-holds slice-write-d (λ c. search needs) loop-less loop-again same-length returns)
