@@ -5,7 +5,9 @@ use crate::images::many_ors;
 use crate::images::nine_kinds;
 use crate::images::one;
 use crate::images::ring;
+use crate::images::three_outs;
 use crate::images::two;
+use crate::images::two_outs;
 use crate::print::bytes;
 use crate::print::outcome;
 use crate::print::part;
@@ -46,10 +48,13 @@ fn show(name: &[u8], image: &[u8], n: usize, from: usize)
     call(name, image, &mut d[..end], n, from);
 }
 
-// The counter, one net of each kind, registers that start with 1, 0 and none given, and the largest that there is, of which the last group is shown.
+// The counter, one net of each kind, a CONST 0, OUTs that are free and protected, registers that start with 1, 0 and none given, and the largest that there
+// is, of which the last group is shown.
 pub fn written() {
     show(b"double, the counter", &counter(), 16, 0);
     show(b"double, one net of each kind", &nine_kinds(), 33, 0);
+    show(b"double, one CONST 0", &one([0, 0, 0], [0, 0, 0, 0]), 2, 0);
+    show(b"double, three OUTs", &three_outs(), 8, 0);
     show(b"double, three REGs in a ring", &ring(), 6, 0);
     show(
         b"double, CONST, 1,023 ORs and AND(1,023, 1,022)",
@@ -129,31 +134,54 @@ pub fn refused_in_order() {
     );
 }
 
-fn run(name: &[u8], image: &[u8], state: &mut [u8], rows: &[u8], outputs: &mut [u8]) {
+fn call_run(
+    name: &[u8],
+    image: &[u8],
+    k: usize,
+    state: &mut [u8],
+    rows: &[u8],
+    outputs: &mut [u8],
+) {
     outcome(name, tracker::power_up(image, state));
     bytes(b", state", state);
-    run_answer(b", run", tracker::run(image, 4, state, rows, outputs));
+    run_answer(b", run", tracker::run(image, k, state, rows, outputs));
     bytes(b", state", state);
     bytes(b", outputs", outputs);
     text(b"\n");
 }
 
-fn run_doubled(image: &[u8], d: &mut [u8], rows: [u8; 8]) {
-    doubling::double(image, d);
-    let mut state = [9u8; 2];
+// Power-up of r registers, and a run of k cycles with o output bytes in all.
+fn run(name: &[u8], image: &[u8], k: usize, r: usize, rows: &[u8], o: usize)
+    requires { ⌜ (r ≤ 6) × (o ≤ 8) ⌝ }
+{
+    let mut state = [9u8; 6];
     let mut outputs = [9u8; 8];
-    run(b"  doubled", d, &mut state, &rows, &mut outputs);
+    call_run(name, image, k, &mut state[..r], rows, &mut outputs[..o]);
 }
 
-// Four cycles of a netlist with an input, a register and an output, and of its doubled netlist, whose image has n bytes. Each row byte v + 2 × t becomes v, t.
-fn beside(name: &[u8], image: &[u8], n: usize, rows: [u8; 4], split: [u8; 8])
-    requires { ⌜ n ≤ 239 ⌝ }
+fn run_doubled(image: &[u8], d: &mut [u8], k: usize, r: usize, rows: &[u8], o: usize)
+    requires { ⌜ (r ≤ 6) × (o ≤ 8) ⌝ }
 {
-    let mut state = [9u8; 1];
-    let mut outputs = [9u8; 4];
-    run(name, image, &mut state, &rows, &mut outputs);
+    doubling::double(image, d);
+    run(b"  doubled", d, k, r, rows, o);
+}
+
+// The same of a netlist and of its doubled netlist, whose image has n bytes. Each row byte v + 2 × t becomes v, t.
+fn beside(
+    name: &[u8],
+    image: &[u8],
+    n: usize,
+    k: usize,
+    r: usize,
+    rows: &[u8],
+    split: &[u8],
+    o: usize,
+)
+    requires { ⌜ (n ≤ 239) × (r ≤ 3) × (o ≤ 4) ⌝ }
+{
+    run(name, image, k, r, rows, o);
     let mut d = [9u8; 239];
-    run_doubled(image, &mut d[..n], split);
+    run_doubled(image, &mut d[..n], k, 2 * r, split, 2 * o);
 }
 
 pub fn runs() {
@@ -161,14 +189,40 @@ pub fn runs() {
         b"the counter, rows 2 0 1 0",
         &counter(),
         120,
-        [2, 0, 1, 0],
-        [0, 1, 0, 0, 1, 0, 0, 0],
+        4,
+        1,
+        b"\x02\0\x01\0",
+        b"\0\x01\0\0\x01\0\0\0",
+        4,
     );
     beside(
         b"one net of each kind, rows 3 0 2 1",
         &nine_kinds(),
         239,
-        [3, 0, 2, 1],
-        [1, 1, 0, 0, 0, 1, 1, 0],
+        4,
+        1,
+        b"\x03\0\x02\x01",
+        b"\x01\x01\0\0\0\x01\x01\0",
+        4,
+    );
+    beside(
+        b"two OUTs, rows 3 0, 1 2",
+        &two_outs(),
+        64,
+        2,
+        0,
+        b"\x03\0\x01\x02",
+        b"\x01\x01\0\0\x01\0\0\x01",
+        4,
+    );
+    beside(
+        b"three REGs in a ring, K = 1",
+        &ring(),
+        50,
+        1,
+        3,
+        b"",
+        b"",
+        0,
     );
 }
