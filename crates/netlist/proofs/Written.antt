@@ -12,14 +12,10 @@ use Rattle.netlist.specs.Image.{operands, encode}
 use Rattle.netlist.specs.Writing.{putNet, putNets}
 use Rattle.netlist.proofs.Encoding.{encode-length, operands-length}
 
--- BYTES FROM A PLACE ON. They change no byte before or behind them
+-- BYTES FROM A PLACE ON. They change no byte before them
 sets-before : (d : List ℕ) (p : ℕ) (ys : List ℕ) (q : ℕ) → q < p → getD (sets d p ys) q 0 ≡ getD d q 0
 sets-before d p [] q h = refl
 sets-before d p (y ∷ ys) q h = sets-before (set d p y) (suc p) ys q (omega arith) ∙ getD-set-other d p q y 0 (λ e. omega arith)
-
-sets-behind : (d : List ℕ) (p : ℕ) (ys : List ℕ) (q : ℕ) → p + length ys ≤ q → getD (sets d p ys) q 0 ≡ getD d q 0
-sets-behind d p [] q h = refl
-sets-behind d p (y ∷ ys) q h = sets-behind (set d p y) (suc p) ys q (omega arith) ∙ getD-set-other d p q y 0 (λ e. omega arith)
 
 -- the bytes ys stand in d from place p on
 data Stands (d : List ℕ) : ℕ → List ℕ → Type 0 where
@@ -51,11 +47,6 @@ stand-rest {d} {p} (cons {ys = ys} y t) h =
 put-length : (d : List ℕ) (n i : ℕ) (x : Net) → length (putNet d n i x) ≡ length d
 unfolding putNet
 put-length d n i x = length-sets (set d (8 + i) (x .kind)) (8 + n + 6 * i) (operands (x ∷ [])) ∙ length-set d (8 + i) (x .kind)
-
-pub puts-length : (d : List ℕ) (n i : ℕ) (xs : List Net) → length (putNets d n i xs) ≡ length d
-unfolding putNets
-puts-length d n i [] = refl
-puts-length d n i (x ∷ xs) = puts-length (putNet d n i x) n (suc i) xs ∙ put-length d n i x
 
 pub puts-append : (d : List ℕ) (n i : ℕ) (xs ys : List Net) → putNets d n i (xs ++ ys) ≡ putNets (putNets d n i xs) n (i + length xs) ys
 unfolding putNets
