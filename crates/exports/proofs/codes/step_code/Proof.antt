@@ -1,0 +1,27 @@
+-- `exports::codes::step_code` meets its contract: the code of the verdict or of the refusal fits, as is asked.
+use Prim.Native.Nat.{ℕ, _^_, _<_}
+use mathlib.Core.Path.{sym, ap, _∙_, subst}
+use borrow.Author.Needs.{needs}
+use Rattle.tracker.specs.declared.answer.StepAnswer.{StepAnswer}
+use Rattle.tracker.specs.Answers.{stepAnswerIn}
+use Rattle.exports.specs.Codes.{verdictCode, answerCode}
+use Rattle.exports.proofs.codes.step_code.Statement.{statement}
+use Rattle.exports.proofs.codes.step_code.Tie as tie
+
+abbrev code : StepAnswer → ℕ
+code a = answerCode verdictCode (stepAnswerIn a)
+
+verdict-code-requires : tie.Need-verdict-code-requires
+verdict-code-requires c κs = subst (λ a. code a < 2 ^ 64) (c .before .a .given .1) (c .before .before .before .pre)
+
+refusal-code-requires : tie.Need-refusal-code-requires
+refusal-code-requires c κs = subst (λ a. code a < 2 ^ 64) (c .before .a2 .given .1) (c .before .before .before .pre)
+
+returns : tie.Need-returns
+returns c = c .verdict-code .ensures ∙ ap code (sym (c .before .before .a .given .1))
+
+returns-2 : tie.Need-returns-2
+returns-2 c = c .refusal-code .ensures ∙ ap code (sym (c .before .before .a2 .given .1))
+
+pub step-code-spec : {M : Type 1} → statement M
+step-code-spec = tie.close (tie.spec (λ c. search needs) verdict-code-requires (λ c. search needs) refusal-code-requires returns returns-2)

@@ -1,0 +1,19 @@
+-- `exports::tracker_power_up` meets its contract: the number of what power-up answers, which fits, and the bytes that it leaves.
+use mathlib.Core.Path.{ap, _∙_}
+use borrow.Author.Needs.{needs}
+use Rattle.tracker.specs.Calls.{PoweredUp}
+use Rattle.exports.specs.Codes.{outcomeCode}
+use Rattle.exports.proofs.Small.{outcome-fits, powered-up-given}
+use Rattle.exports.proofs.tracker_power_up.Statement.{statement}
+use Rattle.exports.proofs.tracker_power_up.Tie as tie
+
+outcome-code-requires : tie.Need-outcome-code-requires
+outcome-code-requires c κs = rw (ap (λ (p : PoweredUp). p .refusal) (c .before .before .power-up .ensures)) (outcome-fits (powered-up-given _ _))
+
+returns : tie.Need-returns
+returns c =
+    let did = c .before .before .before .power-up .ensures in
+    (c .outcome-code .ensures ∙ ap (λ (p : PoweredUp). outcomeCode (p .refusal)) did, ap (λ (p : PoweredUp). p .state) did)
+
+pub tracker-power-up-spec : {M : Type 1} → statement M
+tracker-power-up-spec = tie.close (tie.spec (λ c κs. search needs) outcome-code-requires (λ c. search needs) returns)

@@ -1,0 +1,21 @@
+-- `exports::tracker_run` meets its contract: the number of the first flow or the refusal of a run, which fits, and the bytes that it leaves.
+use mathlib.Core.Path.{ap, _∙_}
+use borrow.Author.Needs.{needs}
+use Rattle.tracker.specs.Calls.{Ran}
+use Rattle.exports.specs.Codes.{firstFlowCode, answerCode}
+use Rattle.exports.proofs.Small.{answer-fits, run-answered, among-small}
+use Rattle.exports.proofs.tracker_run.Statement.{statement}
+use Rattle.exports.proofs.tracker_run.Tie as tie
+
+run-code-requires : tie.Need-run-code-requires
+run-code-requires c κs = rw (ap (λ (d : Ran). d .answer) (c .before .before .before .before .run .ensures)) (answer-fits firstFlowCode among-small (run-answered _ _ _ _ _))
+
+returns : tie.Need-returns
+returns c =
+    let did = c .before .before .before .before .before .run .ensures in (
+      c .run-code .ensures ∙ ap (λ (d : Ran). answerCode firstFlowCode (d .answer)) did,
+      (ap (λ (d : Ran). d .state) did, ap (λ (d : Ran). d .outputs) did),
+    )
+
+pub tracker-run-spec : {M : Type 1} → statement M
+tracker-run-spec = tie.close (tie.spec (λ c κs. search needs) run-code-requires (λ c. search needs) (λ c. search needs) returns)

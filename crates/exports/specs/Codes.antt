@@ -1,0 +1,29 @@
+-- Every answer as one number. A refusal has its number above 2^32 and its place below; every other answer is below 2^32.
+use Prim.Native.Nat.{ℕ, _+_, _*_, _^_}
+use mathlib.Core.Option.{Option, none, some}
+use Rattle.netlist.specs.declared.answer.Refusal.{Refusal}
+use Rattle.tracker.specs.Cycle.{Verdict, clear, flow, FirstFlow}
+use Rattle.tracker.specs.Calls.{Answer, done, refused}
+
+-- a refusal: its number × 2^32 + its place
+abbrev pub refusalCode : Refusal → ℕ
+refusalCode r = r .number * 2 ^ 32 + r .place
+
+-- a call without a result of its own: 0 where it is done
+abbrev pub outcomeCode : Option Refusal → ℕ
+outcomeCode none = 0
+outcomeCode (some r) = refusalCode r
+
+-- a verdict: 0 for clear, and net + 1 for a flow
+abbrev pub verdictCode : Verdict → ℕ
+verdictCode clear = 0
+verdictCode (flow net) = net + 1
+
+-- the first flow of a run: its cycle × 65,536 + the verdict
+abbrev pub firstFlowCode : FirstFlow → ℕ
+firstFlowCode f = f .cycle * 65536 + verdictCode (f .verdict)
+
+-- a call with a result, and the number of that result
+abbrev pub answerCode : {A : Type 0} → (A → ℕ) → Answer A → ℕ
+answerCode code (done x) = code x
+answerCode code (refused r) = refusalCode r

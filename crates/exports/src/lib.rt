@@ -1,0 +1,68 @@
+// The library for C and Rust: each call of the tracker under a plain name, with one number for its answer (include/tracker.h).
+mod codes;
+
+use codes::outcome_code;
+use codes::run_code;
+use codes::step_code;
+ghost use mathlib.Core.Path.{_≡_};
+ghost use Rattle.netlist.specs.Check.{checkRefusal};
+ghost use Rattle.tracker.specs.Calls.{powerUpOf, stepOf, runOf};
+ghost use Rattle.doubling.specs.Doubled.{doubleOf};
+ghost use Rattle.exports.specs.Codes.{outcomeCode, verdictCode, firstFlowCode, answerCode};
+
+// Whether an image is accepted.
+#[no_mangle]
+pub extern "C" fn tracker_check(image: &[u8]) -> u64
+    ensures { λ r. ⌜ r ≡ outcomeCode (checkRefusal (now (image .entry))) ⌝ }
+{
+    let o = netlist::check(image);
+    outcome_code(o)
+}
+
+// Sets each register to its start.
+#[no_mangle]
+pub extern "C" fn tracker_power_up(image: &[u8], state: &mut [u8]) -> u64
+    ensures { λ r. ⌜ r ≡ outcomeCode (powerUpOf (now (image .entry)) (now (state .entry)) .refusal) ⌝ }
+    ensures { λ r. ⌜ now (state .exit) ≡ powerUpOf (now (image .entry)) (now (state .entry)) .state ⌝ }
+{
+    let o = tracker::power_up(image, state);
+    outcome_code(o)
+}
+
+// One clock cycle.
+#[no_mangle]
+pub extern "C" fn tracker_step(image: &[u8], state: &mut [u8], row: &[u8], nets: &mut [u8]) -> u64
+    ensures { λ r. ⌜ r ≡ answerCode verdictCode (stepOf (now (image .entry)) (now (state .entry)) (now (row .entry)) (now (nets .entry)) .answer) ⌝ }
+    ensures { λ r. ⌜ now (state .exit) ≡ stepOf (now (image .entry)) (now (state .entry)) (now (row .entry)) (now (nets .entry)) .state ⌝ }
+    ensures { λ r. ⌜ now (nets .exit) ≡ stepOf (now (image .entry)) (now (state .entry)) (now (row .entry)) (now (nets .entry)) .nets ⌝ }
+{
+    let a = tracker::step(image, state, row, nets);
+    step_code(a)
+}
+
+// k clock cycles.
+#[no_mangle]
+pub extern "C" fn tracker_run(
+    image: &[u8],
+    k: usize,
+    state: &mut [u8],
+    rows: &[u8],
+    outputs: &mut [u8],
+) -> u64
+    ensures { λ r. ⌜ r ≡ answerCode firstFlowCode (runOf (now (image .entry)) (now (state .entry)) k (now (rows .entry)) (now (outputs .entry)) .answer) ⌝ }
+    ensures { λ r. ⌜ now (state .exit) ≡ runOf (now (image .entry)) (now (state .entry)) k (now (rows .entry)) (now (outputs .entry)) .state ⌝ }
+    ensures { λ r. ⌜ now (outputs .exit) ≡ runOf (now (image .entry)) (now (state .entry)) k (now (rows .entry)) (now (outputs .entry)) .outputs ⌝ }
+{
+    let a = tracker::run(image, k, state, rows, outputs);
+    run_code(a)
+}
+
+// The doubled netlist.
+#[no_mangle]
+pub extern "C" fn tracker_double(image: &[u8], buffer: &mut [u8]) -> u64
+    ensures { λ r. ⌜ r ≡ outcomeCode (doubleOf (now (image .entry)) (now (buffer .entry)) .refusal) ⌝ }
+    ensures { λ r. ⌜ now (buffer .exit) ≡ doubleOf (now (image .entry)) (now (buffer .entry)) .buffer ⌝ }
+{
+    let o = doubling::double(image, buffer);
+    outcome_code(o)
+}
