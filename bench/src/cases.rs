@@ -1,0 +1,100 @@
+//! The cases that are measured.
+
+use crate::call::Call;
+use crate::generate::{image, rows, Mix};
+use crate::image::{sizes_of, Sizes};
+use crate::library;
+use crate::peers::Peer;
+
+/// The seeds of the netlists and of the rows.
+const NETLIST_SEED: u64 = 1;
+const ROW_SEED: u64 = 2;
+
+/// A case: its netlist, by mix and number of nets, and whether OUTs are protected.
+#[derive(Clone, Copy)]
+pub struct Case {
+    pub mix: Mix,
+    pub nets: usize,
+    pub protect: bool,
+}
+
+const fn case(mix: Mix, nets: usize, protect: bool) -> Case {
+    Case {
+        mix,
+        nets,
+        protect,
+    }
+}
+
+/// The case of the headline.
+pub const HEADLINE: Case = case(Mix::Equal, 8192, true);
+
+/// All cases, the headline's first.
+pub const CASES: [Case; 6] = [
+    HEADLINE,
+    case(Mix::Equal, 1100, true),
+    case(Mix::Equal, 8192, false),
+    case(Mix::Gates, 8192, true),
+    case(Mix::Gates, 1100, true),
+    case(Mix::Gates, 8192, false),
+];
+
+impl Case {
+    /// What the case is called in print.
+    pub fn name(self) -> String {
+        let mix = match self.mix {
+            Mix::Equal => "kinds equally likely",
+            Mix::Gates => "mostly gates",
+        };
+        let flow = match self.protect {
+            true => "flow early",
+            false => "no OUT protected, no flow",
+        };
+        format!("{} nets, {}, {}", self.nets, mix, flow)
+    }
+}
+
+/// A case with its bytes: the image, the state at power-up, and rows.
+pub struct Bytes {
+    pub image: Vec<u8>,
+    pub sizes: Sizes,
+    pub start: Vec<u8>,
+    pub rows: Vec<u8>,
+}
+
+impl Bytes {
+    /// The bytes of a case with rows for k cycles.
+    pub fn of(case: Case, k: usize) -> Bytes {
+        let image = image(case.mix, case.nets, NETLIST_SEED, case.protect);
+        Bytes::with_image(image, k, ROW_SEED)
+    }
+
+    /// An image with rows for k cycles.
+    pub fn with_image(image: Vec<u8>, k: usize, seed: u64) -> Bytes {
+        let sizes = sizes_of(&image);
+        let mut start = vec![0; sizes.registers];
+        assert_eq!(library::power_up(&image, &mut start), 0);
+        Bytes {
+            rows: rows(k * sizes.inputs, seed),
+            image,
+            sizes,
+            start,
+        }
+    }
+
+    /// Room for the outputs of k cycles.
+    pub fn outputs(&self, k: usize) -> Vec<u8> {
+        vec![0; k * self.sizes.outputs]
+    }
+
+    /// A run of k cycles. The state and the outputs are the caller's.
+    pub fn run(&self, peer: Peer, k: usize, state: &mut [u8], outputs: &mut [u8]) -> u64 {
+        (peer.run)(Call {
+            image: &self.image,
+            k,
+            state,
+            rows: &self.rows[..k * self.sizes.inputs],
+            outputs: &mut outputs[..k * self.sizes.outputs],
+        })
+    }
+}

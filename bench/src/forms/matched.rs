@@ -1,0 +1,53 @@
+//! Form "match": unchecked reads, a match on the kind, formulas on bits.
+
+use super::passes::{clock, verdict, write_outputs};
+use super::read::{kind, operand, operands};
+use super::table::code;
+use crate::call::{Call, First};
+use crate::image::{Sizes, CONST, INPUT, MOST_NETS, REG};
+
+/// The k cycles of an accepted run.
+pub fn cycles(mut call: Call, z: Sizes) -> First {
+    let (image, n) = (call.image.as_ptr(), z.nets);
+    let mut nets = [0u8; MOST_NETS];
+    let mut first = None;
+    for cycle in 0..call.k {
+        // SAFETY: the image, the state and the rows have been accepted.
+        unsafe {
+            work_out(image, n, call.row(z, cycle), call.state, &mut nets);
+            if first.is_none() {
+                first = verdict(image, n, nets.as_ptr()).map(|net| (cycle, net));
+            }
+            write_outputs(image, n, nets.as_ptr(), call.slot(z, cycle).as_mut_ptr());
+            clock(image, n, nets.as_ptr(), call.state.as_mut_ptr());
+        }
+    }
+    first
+}
+
+/// The bytes of all nets.
+unsafe fn work_out(image: *const u8, n: usize, row: &[u8], state: &[u8], nets: &mut [u8]) {
+    let pins = operands(image, n);
+    let (mut inputs, mut registers) = (row.as_ptr(), state.as_ptr());
+    for i in 0..n {
+        let read = |k: usize| *nets.get_unchecked(operand(pins, i, k));
+        let byte = match kind(image, i) {
+            CONST => operand(pins, i, 0) as u8,
+            INPUT => {
+                inputs = inputs.add(1);
+                *inputs.sub(1)
+            }
+            REG => {
+                registers = registers.add(1);
+                *registers.sub(1)
+            }
+            3 => code(3, read(0), 0, 0),
+            4 => code(4, read(0), read(1), 0),
+            5 => code(5, read(0), read(1), 0),
+            6 => code(6, read(0), read(1), 0),
+            7 => code(7, read(0), read(1), read(2)),
+            _ => read(0),
+        };
+        *nets.get_unchecked_mut(i) = byte;
+    }
+}

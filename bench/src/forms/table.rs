@@ -1,0 +1,41 @@
+//! The codes of all gates, worked out by the compiler from the formulas.
+
+/// A code for each kind and each byte of pins a, b and c, at
+/// kind * 64 + a * 16 + b * 4 + c. Kinds 0 to 2 and OUT pass on pin a.
+pub static TABLE: [u8; 576] = filled();
+
+/// The same codes, and zeros up to the largest index that four bytes can give.
+pub static WIDE: [u8; 255 * 85 + 1] = filled();
+
+const fn filled<const LENGTH: usize>() -> [u8; LENGTH] {
+    let mut table = [0; LENGTH];
+    let mut index = 0;
+    while index < 576 {
+        let kind = index / 64;
+        let (a, b, c) = (index / 16 % 4, index / 4 % 4, index % 4);
+        table[index] = code(kind, a as u8, b as u8, c as u8);
+        index += 1;
+    }
+    table
+}
+
+/// The byte of a gate by its pins' bytes.
+pub const fn code(kind: usize, a: u8, b: u8, c: u8) -> u8 {
+    let (ta, tb) = (a >> 1, b >> 1);
+    match kind {
+        3 => a ^ 1,
+        4 => ((a & b) & 1) | (((ta & b) | (tb & a) | (ta & tb)) & 1) << 1,
+        5 => ((a | b) & 1) | (((ta & !b) | (tb & !a) | (ta & tb)) & 1) << 1,
+        6 => ((a ^ b) & 1) | ((ta | tb) & 1) << 1,
+        7 => {
+            let chosen = if c & 1 == 0 { a } else { b };
+            let any = ((a | b) != 0) as u8;
+            if c >= 2 {
+                (chosen & 1) | any << 1
+            } else {
+                chosen
+            }
+        }
+        _ => a,
+    }
+}

@@ -1,0 +1,50 @@
+//! Form "table": unchecked reads, one table of codes, a branch for the kinds
+//! that are no gates, and passes for the OUTs and the REGs.
+
+use super::passes::{clock, verdict, write_outputs};
+use super::read::{kind, operand, operands};
+use super::table::TABLE;
+use crate::call::{Call, First};
+use crate::image::{Sizes, INPUT, MOST_NETS, NOT, REG};
+
+/// The k cycles of an accepted run.
+pub fn cycles(mut call: Call, z: Sizes) -> First {
+    let (image, n) = (call.image.as_ptr(), z.nets);
+    let mut nets = [0u8; MOST_NETS];
+    let mut first = None;
+    for cycle in 0..call.k {
+        // SAFETY: the image, the state and the rows have been accepted.
+        unsafe {
+            work_out(image, n, call.row(z, cycle), call.state, &mut nets);
+            if first.is_none() {
+                first = verdict(image, n, nets.as_ptr()).map(|net| (cycle, net));
+            }
+            write_outputs(image, n, nets.as_ptr(), call.slot(z, cycle).as_mut_ptr());
+            clock(image, n, nets.as_ptr(), call.state.as_mut_ptr());
+        }
+    }
+    first
+}
+
+/// The bytes of all nets.
+pub unsafe fn work_out(image: *const u8, n: usize, row: &[u8], state: &[u8], nets: &mut [u8]) {
+    let pins = operands(image, n);
+    let (mut inputs, mut registers) = (row.as_ptr(), state.as_ptr());
+    for i in 0..n {
+        let read = |k: usize| usize::from(*nets.get_unchecked(operand(pins, i, k)));
+        let kind = kind(image, i);
+        let byte = if kind >= NOT {
+            let index = ((usize::from(kind) * 4 + read(0)) * 4 + read(1)) * 4 + read(2);
+            *TABLE.get_unchecked(index)
+        } else if kind == INPUT {
+            inputs = inputs.add(1);
+            *inputs.sub(1)
+        } else if kind == REG {
+            registers = registers.add(1);
+            *registers.sub(1)
+        } else {
+            operand(pins, i, 0) as u8
+        };
+        *nets.get_unchecked_mut(i) = byte;
+    }
+}

@@ -1,0 +1,75 @@
+//! Random netlists and rows.
+
+use crate::image::{image_of, Net, CONST, INPUT, MUX, NOT, OUT, REG};
+use crate::random::Random;
+
+/// How the kinds of the nets are mixed. They stand in random order.
+#[derive(Clone, Copy, PartialEq)]
+pub enum Mix {
+    /// All nine kinds are equally likely.
+    Equal,
+    /// 85 nets in 100 are gates and OUTs.
+    Gates,
+}
+
+/// The nets at the start that are no gates, so that pins have something to name.
+const SOURCES: usize = 8;
+
+/// The OUTs in 100 that are protected.
+const PROTECTED: usize = 25;
+
+/// The row bytes in 100 that are marked.
+const MARKED: usize = 25;
+
+/// An image of n nets. Where `protect` is false no OUT is protected, and else
+/// the netlist is the same but for the protected OUTs.
+pub fn image(mix: Mix, n: usize, seed: u64, protect: bool) -> Vec<u8> {
+    let mut random = Random::new(seed);
+    let mut nets = Vec::with_capacity(n);
+    for i in 0..n {
+        let mut net = random_net(&mut random, mix, n, i);
+        if net.kind == OUT && !protect {
+            net.b = 0;
+        }
+        nets.push(net);
+    }
+    image_of(&nets)
+}
+
+/// Net i of n.
+fn random_net(random: &mut Random, mix: Mix, n: usize, i: usize) -> Net {
+    let kind = random_kind(random, mix, i);
+    let mut pin = |limit: usize| random.below(limit) as u16;
+    let (a, b, c) = match kind {
+        CONST => (pin(2), 0, 0),
+        INPUT => (0, 0, 0),
+        REG => (pin(n), pin(3), 0),
+        NOT => (pin(i), 0, 0),
+        MUX => (pin(i), pin(i), pin(i)),
+        OUT => (pin(i), u16::from(random.chance(PROTECTED)), 0),
+        _ => (pin(i), pin(i), 0),
+    };
+    Net { kind, a, b, c }
+}
+
+/// The kind of net i. Net 0 is an INPUT.
+fn random_kind(random: &mut Random, mix: Mix, i: usize) -> u8 {
+    if i == 0 {
+        return INPUT;
+    }
+    if i < SOURCES {
+        return random.below(3) as u8;
+    }
+    match mix {
+        Mix::Equal => random.below(9) as u8,
+        Mix::Gates if random.chance(85) => NOT + random.below(6) as u8,
+        Mix::Gates => random.below(3) as u8,
+    }
+}
+
+/// Row bytes with random values, a quarter of them marked.
+pub fn rows(length: usize, seed: u64) -> Vec<u8> {
+    let mut random = Random::new(seed);
+    let mut byte = || random.below(2) as u8 + 2 * u8::from(random.chance(MARKED));
+    (0..length).map(|_| byte()).collect()
+}

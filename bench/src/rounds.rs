@@ -1,0 +1,47 @@
+//! Alternating rounds: each round times every peer once, in turn, so that what
+//! else the machine does meets all of them alike.
+
+use std::hint::black_box;
+use std::time::Instant;
+
+use crate::cases::Bytes;
+use crate::peers::Peer;
+
+/// The seconds of each peer in each round: `times[peer][round]`.
+pub fn rounds(bytes: &Bytes, k: usize, peers: &[Peer], rounds: usize) -> Vec<Vec<f64>> {
+    let mut times = vec![Vec::new(); peers.len()];
+    let mut outputs = bytes.outputs(k);
+    for _ in 0..rounds {
+        for (peer, times) in peers.iter().zip(&mut times) {
+            let mut state = bytes.start.clone();
+            let start = Instant::now();
+            let answer = bytes.run(*peer, k, &mut state, &mut outputs);
+            let time = start.elapsed().as_secs_f64();
+            black_box((answer, &state, &outputs));
+            times.push(time);
+        }
+    }
+    times
+}
+
+/// The median of a list that is not empty.
+pub fn median(list: &[f64]) -> f64 {
+    let mut sorted = list.to_vec();
+    sorted.sort_by(f64::total_cmp);
+    let middle = sorted.len() / 2;
+    match sorted.len() % 2 {
+        1 => sorted[middle],
+        _ => (sorted[middle - 1] + sorted[middle]) / 2.0,
+    }
+}
+
+/// The lowest of a list.
+pub fn lowest(list: &[f64]) -> f64 {
+    list.iter().copied().fold(f64::INFINITY, f64::min)
+}
+
+/// The median of the ratios above / below, round by round.
+pub fn median_ratio(above: &[f64], below: &[f64]) -> f64 {
+    let ratios: Vec<f64> = above.iter().zip(below).map(|(a, b)| a / b).collect();
+    median(&ratios)
+}

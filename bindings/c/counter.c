@@ -1,0 +1,157 @@
+/* An example: the counter of the specification, through every call of tracker.h.
+ *
+ * Its nets are 0 INPUT; 1 REG of net 4, start 0; 2 NOT 1; 3 NOT 0; 4 AND(2, 3); 5 OUT 1, protected.
+ */
+#include "tracker.h"
+
+#include <inttypes.h>
+#include <stdio.h>
+#include <string.h>
+
+/* The sizes N, I, R and O, then a kind for each net, then operands a, b and c for each net. A u16 has its low byte first. */
+static const uint8_t counter[50] = {
+    6, 0, 1, 0, 1, 0, 1, 0,
+    1, 2, 3, 3, 4, 8,
+    0, 0, 0, 0, 0, 0,
+    4, 0, 0, 0, 0, 0,
+    1, 0, 0, 0, 0, 0,
+    0, 0, 0, 0, 0, 0,
+    2, 0, 3, 0, 0, 0,
+    1, 0, 1, 0, 0, 0,
+};
+
+/* Where operand b of net 5 stands: behind 8 bytes of sizes, 6 kinds, and 5 nets of 6 operand bytes, operand a comes first. */
+enum { POLICY_OF_NET_5 = 8 + 6 + 6 * 5 + 2 };
+
+static void print_bytes(const char *name, const uint8_t *bytes, size_t length)
+{
+    printf("; %s", name);
+    for (size_t i = 0; i < length; i++)
+        printf(" %u", (unsigned)bytes[i]);
+}
+
+/* Prints a refusal and answers 1, or answers 0 where the call did not turn back. The other readers of an answer are for that case alone. */
+static int print_refusal(uint64_t answer)
+{
+    if (tracker_refusal(answer) == 0)
+        return 0;
+    printf("refused %" PRIu32 " at place %" PRIu32, tracker_refusal(answer), tracker_place(answer));
+    return 1;
+}
+
+static void print_done(uint64_t answer)
+{
+    if (!print_refusal(answer))
+        printf("done");
+}
+
+static void print_verdict(uint64_t answer)
+{
+    if (print_refusal(answer))
+        return;
+    if (tracker_flow(answer) < 0)
+        printf("clear");
+    else
+        printf("flow at net %" PRId32, tracker_flow(answer));
+}
+
+static void print_first_flow(uint64_t answer)
+{
+    if (print_refusal(answer))
+        return;
+    print_verdict(answer);
+    printf("%s %" PRIu32, tracker_flow(answer) < 0 ? ", cycle" : " in cycle", tracker_cycle(answer));
+}
+
+static void power_up_and_step(void)
+{
+    uint8_t state[1] = { 0 };
+    uint8_t nets[6] = { 0 };
+    const uint8_t row[1] = { 2 };
+
+    printf("power-up: ");
+    print_done(tracker_power_up(counter, sizeof counter, state, sizeof state));
+    print_bytes("state", state, sizeof state);
+
+    printf("\nstep on 2: ");
+    print_verdict(tracker_step(counter, sizeof counter, state, sizeof state, row, sizeof row, nets, sizeof nets));
+    print_bytes("nets", nets, sizeof nets);
+    print_bytes("state", state, sizeof state);
+    printf("\n");
+}
+
+static void power_up_and_run(void)
+{
+    uint8_t state[1] = { 0 };
+    uint8_t outputs[4] = { 0 };
+    const uint8_t rows[4] = { 2, 0, 1, 0 };
+
+    printf("power-up: ");
+    print_done(tracker_power_up(counter, sizeof counter, state, sizeof state));
+    print_bytes("state", state, sizeof state);
+
+    printf("\nrun on 2 0 1 0: ");
+    print_first_flow(tracker_run(counter, sizeof counter, 4, state, sizeof state, rows, sizeof rows, outputs, sizeof outputs));
+    print_bytes("outputs", outputs, sizeof outputs);
+    print_bytes("state", state, sizeof state);
+    printf("\n");
+}
+
+/* The doubled netlist has 16 nets: two for each net of the counter, but six for its AND. */
+static void double_counter(uint8_t doubled[120])
+{
+    printf("double into 119 bytes: ");
+    print_done(tracker_double(counter, sizeof counter, doubled, 119));
+
+    printf("\ndouble into 120 bytes: ");
+    print_done(tracker_double(counter, sizeof counter, doubled, 120));
+    printf("; sizes");
+    for (size_t i = 0; i < 8; i += 2)
+        printf(" %u", doubled[i] + 256u * doubled[i + 1]);
+    printf("\n");
+}
+
+/* Each row byte of the counter, value + 2 x mark, becomes the two bytes value and mark. */
+static void run_doubled(const uint8_t doubled[120])
+{
+    uint8_t state[2] = { 0 };
+    uint8_t outputs[8] = { 0 };
+    const uint8_t rows[8] = { 0, 1, 0, 0, 1, 0, 0, 0 };
+
+    printf("power-up of the doubled: ");
+    print_done(tracker_power_up(doubled, 120, state, sizeof state));
+    print_bytes("state", state, sizeof state);
+
+    printf("\nrun of the doubled on 0 1 0 0 1 0 0 0: ");
+    print_first_flow(tracker_run(doubled, 120, 4, state, sizeof state, rows, sizeof rows, outputs, sizeof outputs));
+    print_bytes("outputs", outputs, sizeof outputs);
+    print_bytes("state", state, sizeof state);
+    printf("\n");
+}
+
+/* A policy is 0 or 1. */
+static void check_damaged(void)
+{
+    uint8_t damaged[sizeof counter];
+
+    memcpy(damaged, counter, sizeof counter);
+    damaged[POLICY_OF_NET_5] = 2;
+    printf("check of the damaged: ");
+    print_done(tracker_check(damaged, sizeof damaged));
+    printf("\n");
+}
+
+int main(void)
+{
+    uint8_t doubled[120] = { 0 };
+
+    printf("check: ");
+    print_done(tracker_check(counter, sizeof counter));
+    printf("\n");
+    power_up_and_step();
+    power_up_and_run();
+    double_counter(doubled);
+    run_doubled(doubled);
+    check_damaged();
+    return 0;
+}

@@ -1,0 +1,66 @@
+//! The static library's answers, each one number, as the types of this crate.
+//!
+//! The upper 32 bits of an answer are the number of a refusal, and the lower 32
+//! its place. Where the upper are 0 the call did not turn back: the lower are 0
+//! for done; for a step the code of its verdict; for a run the cycle × 65,536 +
+//! the code of its verdict. The code of a verdict is 0 for clear, and the
+//! flow's net + 1 for a flow.
+
+use crate::{FirstFlow, Reason, Refusal, Verdict, MOST_CYCLES, MOST_NETS};
+
+/// The answer of a call that is done or turns back.
+pub(crate) fn done(answer: u64) -> Result<(), Refusal> {
+    match accepted(answer)? {
+        0 => Ok(()),
+        _ => unknown(answer),
+    }
+}
+
+/// The answer of a step.
+pub(crate) fn step(answer: u64) -> Result<Verdict, Refusal> {
+    let code = accepted(answer)?;
+    Ok(verdict(code).unwrap_or_else(|| unknown(answer)))
+}
+
+/// The answer of a run.
+pub(crate) fn run(answer: u64) -> Result<FirstFlow, Refusal> {
+    let low = accepted(answer)?;
+    let cycle = low / 65_536;
+    match verdict(low % 65_536) {
+        Some(verdict) if cycle <= MOST_CYCLES => Ok(FirstFlow { cycle, verdict }),
+        _ => unknown(answer),
+    }
+}
+
+/// The lower 32 bits of an answer that is no refusal.
+fn accepted(answer: u64) -> Result<usize, Refusal> {
+    let number = (answer >> 32) as u32;
+    let low = answer as u32 as usize;
+    if number == 0 {
+        return Ok(low);
+    }
+    match Reason::from_number(number) {
+        Some(reason) => Err(Refusal { reason, place: low }),
+        None => unknown(answer),
+    }
+}
+
+/// The verdict of a code, or none where the net is too large.
+fn verdict(code: usize) -> Option<Verdict> {
+    match code {
+        0 => Some(Verdict::Clear),
+        1..=MOST_NETS => Some(Verdict::Flow { net: code - 1 }),
+        _ => None,
+    }
+}
+
+/// No answer of this release is this number.
+fn unknown(answer: u64) -> ! {
+    panic!(
+        "the static library gave the answer {answer}, which this wrapper does not know: \
+         they are not of one release"
+    )
+}
+
+#[cfg(test)]
+mod tests;

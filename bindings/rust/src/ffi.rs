@@ -1,0 +1,112 @@
+//! The functions of the static library, each behind a safe function on slices.
+//!
+//! They are declared as in `include/tracker.h`. Each wants pointers that are
+//! not null, each to as many bytes as the length beside it says, and a buffer
+//! that is written must not overlap another one. It keeps no pointer.
+
+extern "C" {
+    fn tracker_check(image: *const u8, image_length: usize) -> u64;
+    fn tracker_power_up(
+        image: *const u8,
+        image_length: usize,
+        state: *mut u8,
+        state_length: usize,
+    ) -> u64;
+    fn tracker_step(
+        image: *const u8,
+        image_length: usize,
+        state: *mut u8,
+        state_length: usize,
+        row: *const u8,
+        row_length: usize,
+        nets: *mut u8,
+        nets_length: usize,
+    ) -> u64;
+    fn tracker_run(
+        image: *const u8,
+        image_length: usize,
+        k: usize,
+        state: *mut u8,
+        state_length: usize,
+        rows: *const u8,
+        rows_length: usize,
+        outputs: *mut u8,
+        outputs_length: usize,
+    ) -> u64;
+    fn tracker_double(
+        image: *const u8,
+        image_length: usize,
+        buffer: *mut u8,
+        buffer_length: usize,
+    ) -> u64;
+}
+
+pub(crate) fn check(image: &[u8]) -> u64 {
+    // SAFETY: The pointer and the length are those of a slice, which is
+    // borrowed until the call returns and is only read.
+    unsafe { tracker_check(image.as_ptr(), image.len()) }
+}
+
+pub(crate) fn power_up(image: &[u8], state: &mut [u8]) -> u64 {
+    // SAFETY: Each pointer and length are those of a slice, which is borrowed
+    // until the call returns; the state is borrowed mutably, so it overlaps
+    // nothing.
+    unsafe { tracker_power_up(image.as_ptr(), image.len(), state.as_mut_ptr(), state.len()) }
+}
+
+pub(crate) fn step(image: &[u8], state: &mut [u8], row: &[u8], nets: &mut [u8]) -> u64 {
+    // SAFETY: Each pointer and length are those of a slice, which is borrowed
+    // until the call returns; the state and the nets are borrowed mutably, so
+    // neither overlaps another slice.
+    unsafe {
+        tracker_step(
+            image.as_ptr(),
+            image.len(),
+            state.as_mut_ptr(),
+            state.len(),
+            row.as_ptr(),
+            row.len(),
+            nets.as_mut_ptr(),
+            nets.len(),
+        )
+    }
+}
+
+pub(crate) fn run(
+    image: &[u8],
+    k: usize,
+    state: &mut [u8],
+    rows: &[u8],
+    outputs: &mut [u8],
+) -> u64 {
+    // SAFETY: Each pointer and length are those of a slice, which is borrowed
+    // until the call returns; the state and the outputs are borrowed mutably,
+    // so neither overlaps another slice.
+    unsafe {
+        tracker_run(
+            image.as_ptr(),
+            image.len(),
+            k,
+            state.as_mut_ptr(),
+            state.len(),
+            rows.as_ptr(),
+            rows.len(),
+            outputs.as_mut_ptr(),
+            outputs.len(),
+        )
+    }
+}
+
+pub(crate) fn double(image: &[u8], buffer: &mut [u8]) -> u64 {
+    // SAFETY: Each pointer and length are those of a slice, which is borrowed
+    // until the call returns; the buffer is borrowed mutably, so it overlaps
+    // nothing.
+    unsafe {
+        tracker_double(
+            image.as_ptr(),
+            image.len(),
+            buffer.as_mut_ptr(),
+            buffer.len(),
+        )
+    }
+}

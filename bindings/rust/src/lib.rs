@@ -1,0 +1,61 @@
+//! A safe wrapper of the static library of the gate-level trust tracker.
+//!
+//! A netlist image and a row of input bytes for each clock cycle go in. For
+//! every net come out its value and its mark, and a [`Verdict`] on whether an
+//! untrusted input has reached a protected output.
+//!
+//! # Terms
+//!
+//! - The *image* holds a netlist of N nets, of which I are INPUTs, R are REGs
+//!   and O are OUTs. Nets are numbered from 0, and inputs, registers and
+//!   outputs are each counted in net order.
+//! - A *byte* of an input, a register, a net or an output is value + 2 × mark,
+//!   so 0 to 3. Mark 0 is trusted, mark 1 untrusted.
+//! - The *state* has a byte for each register, and a *row* a byte for each
+//!   input.
+//! - The *doubled netlist* is a netlist in which values and marks are both
+//!   ordinary values, worked out by gates.
+//!
+//! # Calls
+//!
+//! | call | what it does | refusals |
+//! |---|---|---|
+//! | [`check`] | says whether an image is a netlist | 1 to 8 |
+//! | [`power_up`] | sets each register to its start | 1 to 8 and 10 |
+//! | [`step`] | takes one cycle | 1 to 8 and 10 to 14 |
+//! | [`run`] | takes K cycles | 1 to 14 |
+//! | [`double`] | writes the doubled netlist | 1 to 8 and 15 to 17 |
+//!
+//! Every call checks the image anew and depends on nothing but what it is lent.
+//! A call that turns back answers with a [`Refusal`] and has changed no lent
+//! byte, except at [`Reason::DoubledRefused`]. Each buffer must have its exact
+//! length, for which [`sizes`] and [`image_length`] help.
+//!
+//! # Panics
+//!
+//! The wrapper and the static library are of one release. An answer that the
+//! wrapper does not know can come only from a library of another release; each
+//! call panics on it, and never gives it the name of another answer.
+
+#![deny(missing_docs)]
+#![deny(unsafe_code)]
+
+mod answers;
+mod calls;
+#[allow(unsafe_code)]
+mod ffi;
+mod image;
+mod reason;
+mod refusal;
+mod verdict;
+
+pub use calls::{check, double, power_up, run, step, MOST_CYCLES};
+pub use image::{image_length, sizes, Sizes, GROUP_LENGTHS, MOST_NETS};
+pub use reason::Reason;
+pub use refusal::Refusal;
+pub use verdict::{FirstFlow, Verdict};
+
+/// The README, whose example is compiled and run as a test.
+#[doc = include_str!("../README.md")]
+#[cfg(doctest)]
+pub struct Readme;

@@ -1,0 +1,48 @@
+//! The numbers of the reasons, against the specification's table.
+
+use super::*;
+use crate::Refusal;
+
+#[test]
+fn the_numbers_1_to_17_each_have_a_reason() {
+    for (number, reason) in (1..=17).zip(REASONS) {
+        assert_eq!(reason.number(), number);
+        assert_eq!(Reason::from_number(number), Some(reason));
+    }
+}
+
+#[test]
+fn no_other_number_has_one() {
+    for number in [0, 18, 26, u32::MAX] {
+        assert_eq!(Reason::from_number(number), None);
+    }
+}
+
+#[test]
+fn nets_and_indexes_are_places_and_the_others_have_none() {
+    for reason in REASONS {
+        let word = match reason.number() {
+            4..=7 => Some("net"),
+            11 | 13 => Some("index"),
+            _ => None,
+        };
+        assert_eq!(reason.place_word(), word);
+    }
+}
+
+#[test]
+fn a_refusal_says_its_place_where_it_has_one() {
+    let words = |reason, place| Refusal { reason, place }.to_string();
+    assert_eq!(
+        words(Reason::ImageTooShort, 0),
+        "refusal 1: the image is under 8 bytes"
+    );
+    assert_eq!(
+        words(Reason::Value, 5),
+        "refusal 6 at net 5: a CONST is above 1, a start above 2 or a policy above 1"
+    );
+    assert_eq!(
+        words(Reason::StateByte, 0),
+        "refusal 11 at index 0: a state byte is above 3"
+    );
+}

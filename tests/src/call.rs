@@ -1,0 +1,131 @@
+//! One call, with the bytes that it is lent beside the image.
+
+/// The five calls.
+#[derive(Clone, Copy, Debug, PartialEq, Eq)]
+pub enum Name {
+    Check,
+    PowerUp,
+    Step,
+    Run,
+    Double,
+}
+
+impl Name {
+    /// The name of the function in the library.
+    pub fn function(self) -> &'static str {
+        match self {
+            Name::Check => "tracker_check",
+            Name::PowerUp => "tracker_power_up",
+            Name::Step => "tracker_step",
+            Name::Run => "tracker_run",
+            Name::Double => "tracker_double",
+        }
+    }
+
+    /// What the library's interface calls the rows.
+    pub fn rows(self) -> &'static str {
+        match self {
+            Name::Step => "row",
+            _ => "rows",
+        }
+    }
+
+    /// What the library's interface calls the buffer that the call fills.
+    pub fn filled(self) -> &'static str {
+        match self {
+            Name::Step => "nets",
+            Name::Run => "outputs",
+            _ => "buffer",
+        }
+    }
+
+    pub fn has_state(self) -> bool {
+        matches!(self, Name::PowerUp | Name::Step | Name::Run)
+    }
+
+    pub fn has_rows(self) -> bool {
+        matches!(self, Name::Step | Name::Run)
+    }
+
+    pub fn has_filled(self) -> bool {
+        matches!(self, Name::Step | Name::Run | Name::Double)
+    }
+}
+
+/// A call. What its function does not take is empty or 0 and is not lent.
+#[derive(Clone, Debug)]
+pub struct Call {
+    pub name: Name,
+    pub k: usize,
+    pub state: Vec<u8>,
+    pub rows: Vec<u8>,
+    /// The net bytes of a step, the outputs of a run, or the doubled image.
+    pub filled: Vec<u8>,
+}
+
+impl Call {
+    fn empty(name: Name) -> Call {
+        Call {
+            name,
+            k: 0,
+            state: Vec::new(),
+            rows: Vec::new(),
+            filled: Vec::new(),
+        }
+    }
+
+    pub fn check() -> Call {
+        Call::empty(Name::Check)
+    }
+
+    pub fn power_up(state: Vec<u8>) -> Call {
+        Call {
+            state,
+            ..Call::empty(Name::PowerUp)
+        }
+    }
+
+    pub fn step(state: Vec<u8>, row: Vec<u8>, nets: Vec<u8>) -> Call {
+        Call {
+            state,
+            rows: row,
+            filled: nets,
+            ..Call::empty(Name::Step)
+        }
+    }
+
+    pub fn run(k: usize, state: Vec<u8>, rows: Vec<u8>, outputs: Vec<u8>) -> Call {
+        Call {
+            k,
+            state,
+            rows,
+            filled: outputs,
+            ..Call::empty(Name::Run)
+        }
+    }
+
+    pub fn double(buffer: Vec<u8>) -> Call {
+        Call {
+            filled: buffer,
+            ..Call::empty(Name::Double)
+        }
+    }
+
+    /// The call in words: its function, k and the lengths of its buffers.
+    pub fn in_words(&self, image: &[u8]) -> String {
+        let mut words = format!("{}, image of {} bytes", self.name.function(), image.len());
+        if self.name == Name::Run {
+            words += &format!(", k {}", self.k);
+        }
+        if self.name.has_state() {
+            words += &format!(", state of {}", self.state.len());
+        }
+        if self.name.has_rows() {
+            words += &format!(", {} of {}", self.name.rows(), self.rows.len());
+        }
+        if self.name.has_filled() {
+            words += &format!(", {} of {}", self.name.filled(), self.filled.len());
+        }
+        words
+    }
+}

@@ -1,0 +1,141 @@
+//! One case: a family, a seed, and the calls that it makes.
+
+use crate::call::Call;
+use crate::calls::Calls;
+use crate::coding::{in_words, number_of};
+use crate::expecting::expect;
+use crate::failure::Failure;
+use crate::lent::WrongByte;
+use crate::making::{make, Made};
+use crate::printing::hex;
+use crate::random::Random;
+use crate::tally::Tally;
+
+pub struct Case<'a> {
+    pub family: &'static str,
+    pub seed: u64,
+    pub random: Random,
+    calls: &'a Calls,
+    tally: &'a mut Tally,
+    print: bool,
+    made: usize,
+}
+
+impl<'a> Case<'a> {
+    /// A case. With `print` it shows each call that it makes.
+    pub fn new(
+        family: &'static str,
+        seed: u64,
+        calls: &'a Calls,
+        tally: &'a mut Tally,
+        print: bool,
+    ) -> Case<'a> {
+        Case {
+            family,
+            seed,
+            random: Random::of_case(family, seed),
+            calls,
+            tally,
+            print,
+            made: 0,
+        }
+    }
+
+    /// Makes a call with the library and the reference, and compares the
+    /// answers and every lent byte. The call then holds the bytes that both
+    /// left.
+    pub fn compare(&mut self, image: &[u8], call: &mut Call) -> Result<u64, Box<Failure>> {
+        let expected = expect(image, call);
+        let made = self.make(image, call);
+        let byte = made.wrong_byte(image, &call.rows, &expected.state, &expected.filled);
+        if made.answer != expected.answer || byte.is_some() {
+            return Err(self.failure(image, call, made.answer, Some(expected.answer), byte));
+        }
+        self.tally.compared += 1;
+        self.tally.note(image, call, made.answer);
+        call.state = expected.state;
+        call.filled = expected.filled;
+        Ok(made.answer)
+    }
+
+    /// Makes a call with the library alone. Guards, image and rows must be
+    /// untouched, and after a refusal every other lent byte too. The call then
+    /// holds the bytes that the library left.
+    pub fn ask(&mut self, image: &[u8], call: &mut Call) -> Result<u64, Box<Failure>> {
+        let made = self.make(image, call);
+        let refused = number_of(made.answer) != 0;
+        let byte = if refused {
+            made.wrong_byte(image, &call.rows, &call.state, &call.filled)
+        } else {
+            made.wrong_byte(image, &call.rows, made.state(), made.filled())
+        };
+        if byte.is_some() {
+            return Err(self.failure(image, call, made.answer, None, byte));
+        }
+        if number_of(made.answer) > 16 {
+            return Err(self.broken(image, call, made.answer, "a refusal is one of 1 to 16"));
+        }
+        self.tally.alone += 1;
+        self.tally.note(image, call, made.answer);
+        call.state.copy_from_slice(made.state());
+        call.filled.copy_from_slice(made.filled());
+        Ok(made.answer)
+    }
+
+    /// The failure of a property, after a call of the library.
+    pub fn broken(
+        &self,
+        image: &[u8],
+        call: &Call,
+        answer: u64,
+        property: impl Into<String>,
+    ) -> Box<Failure> {
+        let mut failure = self.failure(image, call, answer, None, None);
+        failure.property = Some(property.into());
+        failure
+    }
+
+    fn make(&mut self, image: &[u8], call: &Call) -> Made {
+        self.made += 1;
+        if self.print {
+            self.print_call(image, call);
+        }
+        let made = make(self.calls, image, call, &mut self.random);
+        if self.print {
+            println!("  answers {}", in_words(call.name, made.answer));
+        }
+        made
+    }
+
+    fn print_call(&self, image: &[u8], call: &Call) {
+        println!("call {}: {}", self.made, call.in_words(image));
+        println!("  image {}", hex(image));
+        if call.name.has_state() {
+            println!("  state {}", hex(&call.state));
+        }
+        if call.name.has_rows() {
+            println!("  {} {}", call.name.rows(), hex(&call.rows));
+        }
+    }
+
+    fn failure(
+        &self,
+        image: &[u8],
+        call: &Call,
+        answer: u64,
+        expected: Option<u64>,
+        byte: Option<WrongByte>,
+    ) -> Box<Failure> {
+        Box::new(Failure {
+            family: self.family,
+            seed: self.seed,
+            place: self.made,
+            name: call.name,
+            call: call.in_words(image),
+            answer,
+            expected,
+            byte,
+            property: None,
+        })
+    }
+}

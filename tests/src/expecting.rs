@@ -1,0 +1,32 @@
+//! What the reference answers to a call, and the bytes that it leaves.
+
+use crate::call::{Call, Name};
+use crate::coding;
+
+/// The outcome that a call must have.
+pub struct Expected {
+    pub answer: u64,
+    pub state: Vec<u8>,
+    pub filled: Vec<u8>,
+}
+
+/// Makes the call with the reference, on copies of the call's bytes.
+pub fn expect(image: &[u8], call: &Call) -> Expected {
+    let mut state = call.state.clone();
+    let mut filled = call.filled.clone();
+    let answer = match call.name {
+        Name::Check => reference::check(image).map(|_| 0),
+        Name::PowerUp => reference::power_up(image, &mut state).map(|()| 0),
+        Name::Step => {
+            reference::step(image, &mut state, &call.rows, &mut filled).map(coding::verdict)
+        }
+        Name::Run => reference::run(image, call.k, &mut state, &call.rows, &mut filled)
+            .map(coding::first_flow),
+        Name::Double => reference::double(image, &mut filled).map(|()| 0),
+    };
+    Expected {
+        answer: answer.unwrap_or_else(coding::refusal),
+        state,
+        filled,
+    }
+}

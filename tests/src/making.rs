@@ -1,0 +1,95 @@
+//! Making a call of the library on lent buffers.
+
+use crate::call::{Call, Name};
+use crate::calls::Calls;
+use crate::lent::{Lent, WrongByte};
+use crate::random::Random;
+
+/// A call that was made: its answer, and the buffers as it left them.
+pub struct Made {
+    pub answer: u64,
+    image: Lent,
+    state: Lent,
+    rows: Lent,
+    filled: Lent,
+}
+
+/// Lends copies of the call's bytes to the library.
+pub fn make(calls: &Calls, image: &[u8], call: &Call, random: &mut Random) -> Made {
+    let mut made = Made {
+        answer: 0,
+        image: Lent::new("image", image, random),
+        state: Lent::new("state", &call.state, random),
+        rows: Lent::new(call.name.rows(), &call.rows, random),
+        filled: Lent::new(call.name.filled(), &call.filled, random),
+    };
+    made.answer = made.ask(calls, call);
+    made
+}
+
+impl Made {
+    /// Calls the function that the call names.
+    fn ask(&mut self, calls: &Calls, call: &Call) -> u64 {
+        let (image, image_length) = (self.image.pointer(), self.image.length());
+        let (state, state_length) = (self.state.pointer(), self.state.length());
+        let (rows, rows_length) = (self.rows.pointer(), self.rows.length());
+        let (filled, filled_length) = (self.filled.pointer(), self.filled.length());
+        // Each pointer is to as many bytes as the length behind it says, and
+        // the buffers are four allocations, so none overlaps another.
+        unsafe {
+            match call.name {
+                Name::Check => (calls.check)(image, image_length),
+                Name::PowerUp => (calls.power_up)(image, image_length, state, state_length),
+                Name::Step => (calls.step)(
+                    image,
+                    image_length,
+                    state,
+                    state_length,
+                    rows,
+                    rows_length,
+                    filled,
+                    filled_length,
+                ),
+                Name::Run => (calls.run)(
+                    image,
+                    image_length,
+                    call.k,
+                    state,
+                    state_length,
+                    rows,
+                    rows_length,
+                    filled,
+                    filled_length,
+                ),
+                Name::Double => (calls.double)(image, image_length, filled, filled_length),
+            }
+        }
+    }
+
+    /// The state as the call left it.
+    pub fn state(&self) -> &[u8] {
+        self.state.bytes()
+    }
+
+    /// The filled buffer as the call left it.
+    pub fn filled(&self) -> &[u8] {
+        self.filled.bytes()
+    }
+
+    /// The first byte that is not as it should be: image and rows as they were
+    /// lent, the state and the filled buffer as given here, and all guards
+    /// untouched.
+    pub fn wrong_byte(
+        &self,
+        image: &[u8],
+        rows: &[u8],
+        state: &[u8],
+        filled: &[u8],
+    ) -> Option<WrongByte> {
+        self.image
+            .wrong_byte(image)
+            .or_else(|| self.state.wrong_byte(state))
+            .or_else(|| self.rows.wrong_byte(rows))
+            .or_else(|| self.filled.wrong_byte(filled))
+    }
+}

@@ -1,0 +1,65 @@
+//! Counts of what was tried, so that a test can ask whether it tried enough.
+
+use crate::call::{Call, Name};
+use crate::coding::{number_of, place_of};
+
+/// The counts of all calls that went well.
+#[derive(Default, Debug)]
+pub struct Tally {
+    /// Calls that were compared with the reference.
+    pub compared: u64,
+    /// Calls whose outcome was used for a property of the library alone.
+    pub alone: u64,
+    /// Calls by the number of their refusal; index 0 counts the accepted ones.
+    pub numbers: [u64; 18],
+    /// Refusals 4 to 7, 11 and 13 by their place: first, last, between.
+    pub places: [[u64; 3]; 18],
+    /// Accepted calls, in the order of `Name`.
+    pub accepted: [u64; 5],
+    /// Accepted steps and runs that answered with a flow.
+    pub flows: u64,
+}
+
+impl Tally {
+    pub fn calls(&self) -> u64 {
+        self.compared + self.alone
+    }
+
+    /// Counts a call by its answer.
+    pub fn note(&mut self, image: &[u8], call: &Call, answer: u64) {
+        let number = number_of(answer) as usize;
+        self.numbers[number] += 1;
+        if number == 0 {
+            self.note_accepted(call.name, answer);
+        } else if let Some(length) = length_of_places(image, call, number) {
+            self.places[number][class(place_of(answer), length)] += 1;
+        }
+    }
+
+    fn note_accepted(&mut self, name: Name, answer: u64) {
+        self.accepted[name as usize] += 1;
+        if matches!(name, Name::Step | Name::Run) && answer % 65_536 != 0 {
+            self.flows += 1;
+        }
+    }
+}
+
+/// How many places a refusal has to choose from. Only 4 to 7, 11 and 13 have a
+/// place.
+fn length_of_places(image: &[u8], call: &Call, number: usize) -> Option<usize> {
+    match number {
+        4..=7 => Some((image.len() - 8) / 7),
+        11 => Some(call.state.len()),
+        13 => Some(call.rows.len()),
+        _ => None,
+    }
+}
+
+/// 0 for the first place, 1 for the last, 2 for one between them.
+fn class(place: usize, length: usize) -> usize {
+    match place {
+        0 => 0,
+        _ if place + 1 == length => 1,
+        _ => 2,
+    }
+}
