@@ -1,0 +1,46 @@
+-- How long the lines are.
+use Prim.Native.Nat.{ℕ, _+_, _≤_}
+use native.Mathlib.Omega.{arith}
+use mathlib.Core.Path.{_≡_}
+use mathlib.Core.List.{List, [], _∷_, _++_}
+use lib.ListN.{length, length-append, length-map}
+use Rattle.netlist.specs.declared.answer.Refusal.{Refusal}
+use Rattle.tracker.specs.Cycle.{Verdict, clear, flow}
+use Rattle.listing_text.specs.Lines.{space, newline, decimal, numbered, endWord, refusedWord, digit, outputDigits, verdictText, cycleLine, endLine, refusedLine}
+use Rattle.listing_text.proofs.Decimal.{decimal-most}
+
+pub outputs-most : (xs : List ℕ) → length (outputDigits xs) ≤ length xs + 1
+unfolding outputDigits
+outputs-most [] = omega arith
+outputs-most (x ∷ xs) = omega (arith, length-map xs digit)
+
+pub verdict-most : (v : Verdict) → length (verdictText v) ≤ 25
+verdict-most clear = omega arith
+verdict-most (flow net) = omega (arith, decimal-most net)
+
+pub cycle-length : (cycle : ℕ) (outputs : List ℕ) (v : Verdict)
+    → length (decimal cycle) + length (outputDigits outputs) + length (verdictText v) + 3 ≡ length (cycleLine cycle outputs v)
+unfolding cycleLine
+cycle-length cycle outputs v =
+    let number = decimal cycle in
+    let digits = outputDigits outputs in
+    let verdict = verdictText v in
+    omega (
+      arith,
+      length-append number space,
+      length-append (number ++ space) digits,
+      length-append (number ++ space ++ digits) space,
+      length-append (number ++ space ++ digits ++ space) verdict,
+      length-append (number ++ space ++ digits ++ space ++ verdict) newline,
+    )
+
+pub end-length : (cycles : ℕ) → length (decimal cycles) + 5 ≡ length (endLine cycles)
+unfolding endLine
+end-length cycles = omega (arith, length-append (numbered endWord cycles) newline)
+
+pub refused-length : (r : Refusal) → length (decimal (r .number)) + length (decimal (r .place)) + 10 ≡ length (refusedLine r)
+unfolding refusedLine
+refused-length r =
+    let word = numbered refusedWord (r .number) in
+    let place = numbered [] (r .place) in
+    omega (arith, length-append word place, length-append (word ++ place) newline)

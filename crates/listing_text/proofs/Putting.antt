@@ -1,0 +1,86 @@
+-- Bytes that are put into a buffer one by one, and texts one behind the other; and the digits of outputs, of which there may be none.
+use Prim.Native.Nat.{ℕ, zero, suc, _+_, _≤_, _<_}
+use native.Mathlib.Omega.{arith}
+use native.Mathlib.Nat.{add-zero}
+use mathlib.Core.Path.{_≡_, refl, ap, _∙_}
+use mathlib.Core.Bool.{true, false}
+use mathlib.Core.List.{List, [], _∷_, _++_, map}
+use lib.Dec.{leb}
+use lib.ListN.{length, getD, set, drop, length-set, length-append}
+use lib.Seq.{sets, length-sets, drop-cons, drop-length}
+use borrow.Author.Tests.{leb-true}
+use Rattle.listing_text.specs.Lines.{digit, outputDigits, put, did}
+
+-- BYTE BY BYTE. The bytes f x, for each x of xs, are put into a buffer from place at on, and the first i of them stand: what is left, put behind them, gives the whole
+pub record Putting (f : ℕ → ℕ) (xs begin : List ℕ) (at : ℕ) (buffer : List ℕ) (i : ℕ) : Type 0 where
+  pub upto : i ≤ length xs
+  pub long : length buffer ≡ length begin
+  pub left : sets buffer (at + i) (map f (drop i xs)) ≡ sets begin at (map f xs)
+
+module _ {f : ℕ → ℕ} {xs begin : List ℕ} {at : ℕ} where
+  pub put-begins : Putting f xs begin at begin 0
+  put-begins = record { upto = omega arith; long = refl; left = rw add-zero }
+
+  pub put-goes-on : {buffer : List ℕ} {i : ℕ} → i < length xs → Putting f xs begin at buffer i
+      → Putting f xs begin at (set buffer (at + i) (f (getD xs i 0))) (i + 1)
+  put-goes-on {buffer} {i} h p =
+      let e : at + (i + 1) ≡ suc (at + i) = omega arith in
+      let n : i + 1 ≡ suc i = omega arith in
+      record {
+        upto = omega arith;
+        long = length-set buffer (at + i) (f (getD xs i 0)) ∙ p .long;
+        left = rw (e, n) (rw (drop-cons xs i 0 h) at (p .left));
+      }
+
+  pub put-ends : {buffer : List ℕ} {i : ℕ} → length xs ≤ i → Putting f xs begin at buffer i → (i ≡ length xs) × (buffer ≡ sets begin at (map f xs))
+  put-ends {i = i} h p = let e : i ≡ length xs = omega (arith, p .upto) in (e, rw (e, drop-length) at (p .left))
+
+pub map-same : (xs : List ℕ) → map (λ x. x) xs ≡ xs
+map-same [] = refl
+map-same (x ∷ xs) = ap (λ l. x ∷ l) (map-same xs)
+
+-- TEXT BY TEXT. A text xs was put into the buffer d at place p: it holds d′ then, and the next place is p′
+pub record Puts (d : List ℕ) (p : ℕ) (xs d′ : List ℕ) (p′ : ℕ) : Type 0 where
+  pub buffer : d′ ≡ sets d p xs
+  pub place : p′ ≡ p + length xs
+
+sets-append : (d : List ℕ) (p : ℕ) (xs ys : List ℕ) → sets (sets d p xs) (p + length xs) ys ≡ sets d p (xs ++ ys)
+sets-append d p [] ys = rw add-zero
+sets-append d p (x ∷ xs) ys = let e : p + suc (length xs) ≡ suc p + length xs = omega arith in rw e (sets-append (set d p x) (suc p) xs ys)
+
+module _ {d : List ℕ} {p : ℕ} {xs d′ : List ℕ} {p′ : ℕ} (was : Puts d p xs d′ p′) where
+  -- another one behind it
+  pub puts-then : {ys d″ : List ℕ} {p″ : ℕ} → Puts d′ p′ ys d″ p″ → Puts d p (xs ++ ys) d″ p″
+  puts-then {ys} next =
+      record {
+        buffer = next .buffer ∙ rw (was .buffer, was .place) (sets-append d p xs ys);
+        place = omega (arith, next .place, was .place, length-append xs ys);
+      }
+
+  -- it keeps the length, so what had room behind it has it still
+  pub puts-room : (n : ℕ) → p + (length xs + n) ≤ length d → p′ + n ≤ length d′
+  puts-room n h = omega (arith, was .place, ap length (was .buffer), length-sets d p xs)
+
+-- A WHOLE LINE, whose length was counted: it is put where it fits, and nothing is changed otherwise
+module _ (d : List ℕ) (p : ℕ) (line : List ℕ) {n : ℕ} (counted : n ≡ length line) where
+  pub line-fits : leb (p + n) (length d) ≡ true → p + length line ≤ length d
+  line-fits h = let l = leb-true (p + n) (length d) h in omega (arith, counted, l)
+
+  pub line-put : {d′ : List ℕ} {p′ : ℕ} → leb (p + n) (length d) ≡ true → d′ ≡ sets d p line → p′ ≡ p + length line → did d′ p′ ≡ put d p line
+  unfolding put
+  line-put h e f = rw (e, f, rw counted at h)
+
+  pub line-left : leb (p + n) (length d) ≡ false → did d p ≡ put d p line
+  unfolding put
+  line-left h = rw (rw counted at h)
+
+-- OUTPUTS. No output is a -, and others are their digits
+pub no-outputs : (xs : List ℕ) → length xs ≡ 0 → outputDigits xs ≡ 45 ∷ []
+unfolding outputDigits
+no-outputs [] h = refl
+no-outputs (x ∷ xs) h = absurd (omega arith)
+
+pub some-outputs : (xs : List ℕ) → (length xs ≡ 0 → ⊥) → outputDigits xs ≡ map digit xs
+unfolding outputDigits
+some-outputs [] h = absurd (h refl)
+some-outputs (x ∷ xs) h = refl

@@ -1,0 +1,2 @@
+-- The lines of the listing.
+pub mod Lines

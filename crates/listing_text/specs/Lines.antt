@@ -1,0 +1,84 @@
+-- The lines of the listing program, in ASCII, and how one is put into a lent buffer.
+use Prim.Native.Nat.{ℕ, zero, suc, _+_, _/_, _%_}
+use mathlib.Core.List.{List, [], _∷_, _++_, map}
+use mathlib.Core.Bool.{cond}
+use lib.Dec.{leb, ltb}
+use lib.ListN.{length}
+use lib.Seq.{sets}
+use Rattle.netlist.specs.declared.answer.Refusal.{Refusal}
+use Rattle.tracker.specs.Cycle.{Verdict, clear, flow}
+
+-- a space, and the end of a line
+abbrev pub space : List ℕ
+space = 32 ∷ []
+
+abbrev pub newline : List ℕ
+newline = 10 ∷ []
+
+-- the words clear, flow, end and refused
+abbrev pub clearWord : List ℕ
+clearWord = 99 ∷ 108 ∷ 101 ∷ 97 ∷ 114 ∷ []
+
+abbrev pub flowWord : List ℕ
+flowWord = 102 ∷ 108 ∷ 111 ∷ 119 ∷ []
+
+abbrev pub endWord : List ℕ
+endWord = 101 ∷ 110 ∷ 100 ∷ []
+
+abbrev pub refusedWord : List ℕ
+refusedWord = 114 ∷ 101 ∷ 102 ∷ 117 ∷ 115 ∷ 101 ∷ 100 ∷ []
+
+-- the decimal digits of a number that has at most so many, the most significant first
+unfoldable pub digitsUpTo : (most : ℕ) → ℕ → List ℕ
+digitsUpTo zero n = []
+digitsUpTo (suc most) n = cond (ltb n 10) ((48 + n) ∷ []) (digitsUpTo most (n / 10) ++ ((48 + n % 10) ∷ []))
+
+-- a number in decimal: a u64 has at most 20 digits
+unfoldable pub decimal : ℕ → List ℕ
+decimal n = digitsUpTo 20 n
+
+-- a word and a number, one space between
+abbrev pub numbered : (word : List ℕ) → ℕ → List ℕ
+numbered word n = word ++ space ++ decimal n
+
+-- the digit of an OUT's byte: a byte of a net is 0 to 3, and of any other byte this is the last digit
+abbrev pub digit : ℕ → ℕ
+digit b = 48 + b % 10
+
+-- O digits, each OUT's byte, or - if O is 0
+unfoldable pub outputDigits : List ℕ → List ℕ
+outputDigits [] = 45 ∷ []
+outputDigits (b ∷ bs) = map digit (b ∷ bs)
+
+-- clear, or flow with the net
+abbrev pub verdictText : Verdict → List ℕ
+verdictText clear = clearWord
+verdictText (flow net) = numbered flowWord net
+
+-- a line has the cycle from 0, the outputs, and the verdict; one space between
+unfoldable pub cycleLine : (cycle : ℕ) (outputs : List ℕ) → Verdict → List ℕ
+cycleLine cycle outputs v = decimal cycle ++ space ++ outputDigits outputs ++ space ++ verdictText v ++ newline
+
+-- at the end: end and the count of cycles
+unfoldable pub endLine : (cycles : ℕ) → List ℕ
+endLine cycles = numbered endWord cycles ++ newline
+
+-- a refusal prints refused, number, place
+unfoldable pub refusedLine : Refusal → List ℕ
+refusedLine r = numbered refusedWord (r .number) ++ numbered [] (r .place) ++ newline
+
+-- a lent buffer in which a line was put, and the place behind the line
+pub record Put : Type 0 where
+  pub buffer : List ℕ
+  pub place : ℕ
+
+-- a line is put at a place, over what stood there; where it does not fit, the buffer and the place stay. `sets d p ys` is d with the bytes ys from place p on
+unfoldable pub put : (buffer : List ℕ) (place : ℕ) (line : List ℕ) → Put
+put buffer place line =
+    cond (leb (place + length line) (length buffer))
+    (record { buffer = sets buffer place line; place = place + length line })
+    (record { buffer = buffer; place = place })
+
+-- what a call of this crate did
+abbrev pub did : (buffer : List ℕ) (place : ℕ) → Put
+did buffer place = record { buffer = buffer; place = place }
