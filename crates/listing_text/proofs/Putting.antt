@@ -3,13 +3,13 @@ use Prim.Native.Nat.{ℕ, zero, suc, _+_, _≤_, _<_}
 use native.Mathlib.Omega.{arith}
 use native.Mathlib.Nat.{add-zero}
 use mathlib.Core.Path.{_≡_, refl, ap, _∙_}
-use mathlib.Core.Bool.{true, false}
+use mathlib.Core.Bool.{Bool, true, false}
 use mathlib.Core.List.{List, [], _∷_, _++_, map}
 use lib.Dec.{leb}
 use lib.ListN.{length, getD, set, drop, length-set, length-append}
 use lib.Seq.{sets, length-sets, drop-cons, drop-length}
 use borrow.Author.Tests.{leb-true}
-use Rattle.listing_text.specs.Lines.{digit, outputDigits, put, did}
+use Rattle.listing_text.specs.Lines.{digit, outputDigits, Put, put, did}
 
 -- BYTE BY BYTE. The bytes f x, for each x of xs, are put into a buffer from place at on, and the first i of them stand: what is left, put behind them, gives the whole
 pub record Putting (f : ℕ → ℕ) (xs begin : List ℕ) (at : ℕ) (buffer : List ℕ) (i : ℕ) : Type 0 where
@@ -73,6 +73,20 @@ module _ (d : List ℕ) (p : ℕ) (line : List ℕ) {n : ℕ} (counted : n ≡ l
   pub line-left : leb (p + n) (length d) ≡ false → did d p ≡ put d p line
   unfolding put
   line-left h = rw (rw counted at h)
+
+-- in either case the next place is within the buffer, if the place was
+pub place-within : (d : List ℕ) (p : ℕ) (line : List ℕ) {d′ : List ℕ} {p′ : ℕ} → did d′ p′ ≡ put d p line → p ≤ length d → p′ ≤ length d′
+unfolding put
+place-within d p line {d′} {p′} e h = by (leb (p + length line) (length d)) refl
+  where
+    by : (b : Bool) → leb (p + length line) (length d) ≡ b → p′ ≤ length d′
+    by true t =
+        let f : did d′ p′ ≡ did (sets d p line) (p + length line) = e ∙ rw t in
+        let l = leb-true (p + length line) (length d) t in
+        omega (arith, l, ap (λ (x : Put). x .place) f, ap (λ (x : Put). length (x .buffer)) f, length-sets d p line)
+    by false t =
+        let f : did d′ p′ ≡ did d p = e ∙ rw t in
+        omega (arith, ap (λ (x : Put). x .place) f, ap (λ (x : Put). length (x .buffer)) f)
 
 -- OUTPUTS. No output is a -, and others are their digits
 pub no-outputs : (xs : List ℕ) → length xs ≡ 0 → outputDigits xs ≡ 45 ∷ []

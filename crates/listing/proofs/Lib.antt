@@ -1,0 +1,2 @@
+-- Laws that the proofs of this program share.
+pub mod Both

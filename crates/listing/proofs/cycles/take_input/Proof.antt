@@ -1,0 +1,89 @@
+-- `listing::cycles::take_input` is safe and ends: each turn is one read of at most 65,536 rows, and reads are counted.
+use Prim.Native.Nat.{_+_, _-_, _*_, _≤_, _<_}
+use native.Mathlib.Omega.{arith}
+use mathlib.Core.Path.{_≡_, refl, _∙_}
+use lib.ListN.{length}
+use borrow.Author.Needs.{needs}
+use borrow.Author.Tests.{ltb-true}
+use Rattle.listing.proofs.Both.{second}
+use Rattle.listing.proofs.cycles.take_input.Statement.{statement}
+use Rattle.listing.proofs.cycles.take_input.Tie as tie
+
+abbrev Inv-loop : tie.InvT-loop
+Inv-loop image inputs state₀ outputs₀ rows₀ text₀ p₀ reads₀ state outputs rows text p reads =
+    (length state ≡ length state₀)
+    × (length outputs ≡ length outputs₀)
+    × (length rows ≡ length rows₀)
+    × (length text ≡ length text₀)
+    × (p .used ≤ length text₀)
+    × (p .cycles ≤ 65536 * reads)
+
+abbrev μ-loop : tie.MeasureT-loop
+μ-loop image inputs state₀ outputs₀ rows₀ text₀ p₀ reads₀ state outputs rows text p reads = 140737488355328 - reads
+
+loop-holds : tie.Need-loop-holds Inv-loop μ-loop
+loop-holds c = (refl, refl, refl, refl, omega arith, omega arith)
+
+-- another read is made
+more : (c : tie.Then1 Inv-loop μ-loop) → c .before .before .loop .reads < 140737488355328
+more c = ltb-true _ _ (second (c .before .before .loop .p .open) _ (c .if1 .taken))
+
+take-some-requires : tie.Need-take-some-requires Inv-loop μ-loop
+take-some-requires c κs =
+    let turn = c .before .before .before .before in
+    let at = turn .before .before in
+    let start = at .before .before .before .before .before .before .before .before .before .before in (
+      omega (arith, at .loop .inv .3, at .loop .inv .4),
+      omega (arith, at .loop .inv .2, at .loop .inv .5, start .pre .1, more turn),
+      start .pre .0,
+    )
+
+add-reads : tie.Need-add-reads Inv-loop μ-loop
+add-reads c = let turn = c .before .before .before .before .before .before .before .before .before .before .before .before .before in record { fits = omega (arith, more turn) }
+
+loop-less : tie.Need-loop-less Inv-loop μ-loop
+loop-less c = let h = more (c .before .before .before .before .before .before .before .before .before .before .before .before .before) in omega (arith, h)
+
+loop-again : tie.Need-loop-again Inv-loop μ-loop
+loop-again c =
+    let some = c .before .before .before .before .before .before .before .before in
+    let at = some .before .before .before .before .before .before .before in
+    let start = at .before .before .before .before .before .before .before .before .before .before in
+    let text = some .take-some .kept .1 .1 .1 .1 .1 .1 .0 ∙ at .loop .inv .3 in (
+      some .take-some .kept .1 .1 .0 ∙ at .loop .inv .0,
+      some .take-some .kept .1 .1 .1 .0 ∙ at .loop .inv .1,
+      some .take-some .kept .1 .1 .1 .1 .0 ∙ at .loop .inv .2,
+      text,
+      omega (arith, some .take-some .ensures .0, text),
+      omega (arith, some .take-some .ensures .1, at .loop .inv .2, at .loop .inv .5, start .pre .1),
+    )
+
+same-length : tie.Need-same-length Inv-loop μ-loop
+same-length c = let at = c .before .before in at .loop .inv .0 ∙ at .before .before .before .power-up .kept .1 .0
+
+same-length-2 : tie.Need-same-length-2 Inv-loop μ-loop
+same-length-2 c = c .before .before .loop .inv .1
+
+same-length-3 : tie.Need-same-length-3 Inv-loop μ-loop
+same-length-3 c = c .before .before .loop .inv .2
+
+same-length-4 : tie.Need-same-length-4 Inv-loop μ-loop
+same-length-4 c = c .before .before .loop .inv .3
+
+pub take-input-spec : {M : Type 1} → statement M
+take-input-spec =
+    tie.close
+    (tie.spec
+    Inv-loop
+    μ-loop
+    (λ c κs. search needs)
+    loop-holds
+    take-some-requires
+    add-reads
+    loop-less
+    loop-again
+    same-length
+    same-length-2
+    same-length-3
+    same-length-4
+    (λ c. search needs))

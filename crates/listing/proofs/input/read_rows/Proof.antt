@@ -1,0 +1,72 @@
+-- `listing::input::read_rows` meets its contract: the bytes that came are within the buffer; each turn reads at least one, so the loop ends.
+use Prim.Native.Nat.{_+_, _-_, _≤_}
+use native.Mathlib.Omega.{arith}
+use mathlib.Core.Path.{_≡_, refl, _∙_}
+use lib.ListN.{length}
+use borrow.Author.Needs.{needs}
+use Rattle.listing.proofs.input.read_rows.Statement.{statement}
+use Rattle.listing.proofs.input.read_rows.Tie as tie
+
+abbrev Inv-loop : tie.InvT-loop
+Inv-loop buffer₀ bytes₀ failed₀ buffer bytes failed = (length buffer ≡ length buffer₀) × (bytes ≤ length buffer₀)
+
+abbrev μ-loop : tie.MeasureT-loop
+μ-loop buffer₀ bytes₀ failed₀ buffer bytes failed = length buffer₀ - bytes
+
+loop-holds : tie.Need-loop-holds Inv-loop μ-loop
+loop-holds c = (refl, omega arith)
+
+read-more-requires : tie.Need-read-more-requires Inv-loop μ-loop
+read-more-requires c κs = let inv = c .before .before .loop .inv in omega (arith, inv .0, inv .1)
+
+-- the length stays, and what came is within it
+long : (c : tie.After-read-more Inv-loop μ-loop) → length (c .read-more .last .0) ≡ length (c .before .before .before .before .before .args .buffer .now)
+long c = c .read-more .kept .0 ∙ c .before .before .before .loop .inv .0
+
+within : (c : tie.After-read-more Inv-loop μ-loop)
+    → c .before .before .before .loop .bytes + c .read-more .result .bytes ≤ length (c .before .before .before .before .before .args .buffer .now)
+within c = omega (arith, c .read-more .ensures, long c)
+
+add-bytes : tie.Need-add-bytes Inv-loop μ-loop
+add-bytes c =
+    let more = c .before .before .before .before .before in
+    record { fits = omega (arith, within more, more .before .before .before .before .before .good) }
+
+loop-less : tie.Need-loop-less Inv-loop μ-loop
+loop-less c =
+    let some = c .before .if1 .left in
+    let more = c .before .before .before .before .before in
+    omega (arith, some, within more)
+
+loop-again : tie.Need-loop-again Inv-loop μ-loop
+loop-again c = let more = c .before .before .before .before .before in (long more, within more)
+
+same-length : tie.Need-same-length Inv-loop μ-loop
+same-length c = c .before .loop .inv .0
+
+returns : tie.Need-returns Inv-loop μ-loop
+returns c = let inv = c .before .loop .inv in omega (arith, inv .0, inv .1)
+
+same-length-2 : tie.Need-same-length-2 Inv-loop μ-loop
+same-length-2 c = long (c .before .before .before .before)
+
+returns-2 : tie.Need-returns-2 Inv-loop μ-loop
+returns-2 c =
+    let more = c .before .before .before .before in
+    omega (arith, long more, more .before .before .before .loop .inv .1)
+
+pub read-rows-spec : {M : Type 1} → statement M
+read-rows-spec =
+    tie.close
+    (tie.spec
+    Inv-loop
+    μ-loop
+    loop-holds
+    read-more-requires
+    add-bytes
+    loop-less
+    loop-again
+    same-length
+    returns
+    same-length-2
+    returns-2)

@@ -1,0 +1,58 @@
+// Reading: the image, and the rows. Both may come in pieces.
+use libc::STDIN_FILENO;
+ghost use Prim.Native.Nat.{_+_, _≤_};
+ghost use lib.ListN.{length};
+ghost use Rattle.io.specs.Counts.{Counts};
+
+// The largest image has 8 + 7 × 8,192 bytes. One byte more is read, so that a longer file is not taken for an image.
+pub const MOST_IMAGE: usize = 57353;
+
+// How many bytes were read into a buffer, and whether a read failed after them.
+pub struct Filled {
+    pub bytes: usize,
+    pub failed: bool,
+}
+
+// The first bytes of net.bin. A file that is missing or cannot be opened counts as 0 bytes; the reason is said on standard error.
+pub fn read_image(buffer: &mut [u8; MOST_IMAGE]) -> usize
+    ensures { λ r. ⌜ Counts r (now (buffer .exit)) ⌝ }
+{
+    let fd = os::open_read(b"net.bin");
+    if fd < 0 {
+        os::fail(b"net.bin");
+        return 0;
+    }
+    let n = io::read_full(fd, buffer);
+    libc::close(fd);
+    n
+}
+
+// One read behind the bytes that are there: how many more came.
+fn read_more(buffer: &mut [u8], from: usize) -> Filled
+    requires { ⌜ from ≤ length (now buffer) ⌝ }
+    ensures { λ r. ⌜ from + r .bytes ≤ length (now (buffer .exit)) ⌝ }
+{
+    let got = libc::read(STDIN_FILENO, &mut buffer[from..]);
+    let bytes = io::count(got, &buffer[from..]);
+    Filled {
+        bytes,
+        failed: got < 0,
+    }
+}
+
+// Reads rows until the buffer is full, the input ends or a read fails.
+pub fn read_rows(buffer: &mut [u8]) -> Filled
+    ensures { λ r. ⌜ r .bytes ≤ length (now (buffer .exit)) ⌝ }
+{
+    let mut bytes: usize = 0;
+    let mut failed = false;
+    while bytes < buffer.len() {
+        let more = read_more(buffer, bytes);
+        if more.bytes == 0 {
+            failed = more.failed;
+            break;
+        }
+        bytes += more.bytes;
+    }
+    Filled { bytes, failed }
+}

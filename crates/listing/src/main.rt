@@ -1,0 +1,13 @@
+// The listing program: it reads net.bin, powers up, takes a row of I bytes a cycle from standard input, and prints a line for each cycle.
+mod cycles;
+mod input;
+mod output;
+
+use input::MOST_IMAGE;
+use input::read_image;
+
+fn main() {
+    let mut space = [0u8; MOST_IMAGE];
+    let n = read_image(&mut space);
+    cycles::list(&space[..n]);
+}
