@@ -1,15 +1,17 @@
 /* The gate-level trust tracker, for C.
  *
- * Every call takes byte buffers as a pointer and a length. A call reads `image`, `row` and `rows`, and may write `state`, `nets`, `outputs` and
- * `buffer`; it keeps no pointer, needs no memory of its own but the stack, and does not depend on earlier calls. A buffer that a call writes must
- * not overlap another buffer of the same call. A pointer is not null, even where the length is 0.
+ * An image holds a netlist (document 01, "The image"): four u16 sizes, low byte first, namely N nets, I inputs, R registers and O outputs; then N kind
+ * bytes; then N entries of three u16 operands. Its length is 8 + 7 x N. A byte of a pin, a register or a net is value + 2 x mark; mark 1 is untrusted.
+ *
+ * Every call takes byte buffers as a pointer and a length, and each length must be exactly the one that the call asks for: a longer buffer is refused
+ * too. A call reads `image`, `row` and `rows`, and may write `state`, `nets`, `outputs` and `buffer`. It keeps no pointer, takes no memory but the
+ * stack, and does not depend on earlier calls. A buffer that a call writes must not overlap another buffer of the same call. No pointer may be null,
+ * even where the length is 0: lend the address of any byte then.
  *
  * Every answer is one number:
- *   - a call that turned back: the refusal's number x 2^32 + its place, and no lent byte has changed (but for 17);
+ *   - of a call that turned back: the refusal's number x 2^32 + its place. No lent byte has changed, but that 17 sets `buffer` to 0;
  *   - otherwise a number below 2^32: 0 for done; for a step 0 for clear, or the flow's net + 1; for a run the cycle x 65,536 + (0 for clear, or
  *     the flow's net + 1).
- *
- * A byte of a pin, a register or a net is value + 2 x mark; mark 1 is untrusted.
  */
 #ifndef TRACKER_H
 #define TRACKER_H
@@ -21,14 +23,38 @@
 extern "C" {
 #endif
 
+/* The most nets of a netlist, and the most cycles of a run. */
+enum { TRACKER_MOST_NETS = 8192, TRACKER_MOST_CYCLES = 4096 };
+
+/* The numbers of refusals, in document 01's table. */
+enum {
+    TRACKER_IMAGE_TOO_SHORT = 1,   /* under 8 bytes */
+    TRACKER_NETS_OUT_OF_RANGE = 2, /* N is 0 or above 8,192 */
+    TRACKER_IMAGE_LENGTH = 3,      /* not 8 + 7 x N */
+    TRACKER_KIND = 4,              /* above 8; the place is the net */
+    TRACKER_PIN = 5,               /* not below its net, or a REG's not below N; the place is the net */
+    TRACKER_VALUE = 6,             /* a CONST above 1, a start above 2, a policy above 1; the place is the net */
+    TRACKER_UNLISTED_OPERAND = 7,  /* not 0; the place is the net */
+    TRACKER_COUNTS = 8,            /* I, R or O is wrong */
+    TRACKER_TOO_MANY_CYCLES = 9,   /* k above 4,096 */
+    TRACKER_STATE_LENGTH = 10,     /* not R */
+    TRACKER_STATE_BYTE = 11,       /* above 3; the place is its index */
+    TRACKER_ROW_LENGTH = 12,       /* not I, or k x I for a run */
+    TRACKER_ROW_BYTE = 13,         /* above 3; the place is its index */
+    TRACKER_BUFFER_LENGTH = 14,    /* not N, or k x O for a run */
+    TRACKER_DOUBLED_TOO_LARGE = 15, /* the doubled netlist has more than 8,192 nets */
+    TRACKER_DOUBLED_LENGTH = 16,   /* the buffer is not as long as the doubled image */
+    TRACKER_DOUBLED_REFUSED = 17   /* the doubled image draws 1 to 8; never given */
+};
+
 /* Whether an image is a netlist. Answers 0, or one of the refusals 1 to 8. */
 uint64_t tracker_check(const uint8_t *image, size_t image_length);
 
-/* Sets each of the R registers to its start. Answers 0, or one of the refusals 1 to 8 and 10. */
+/* Sets each of the R registers to its start, or to 0 where none is given, trusted. Answers 0, or one of the refusals 1 to 8 and 10. */
 uint64_t tracker_power_up(const uint8_t *image, size_t image_length,
                           uint8_t *state, size_t state_length);
 
-/* One clock cycle on a row of I bytes: fills N net bytes and rewrites the state. Answers with the verdict, or one of the refusals 1 to 8 and
+/* One clock cycle on a row of I bytes: fills N net bytes and rewrites the R state bytes. Answers with the verdict, or one of the refusals 1 to 8 and
  * 10 to 14. */
 uint64_t tracker_step(const uint8_t *image, size_t image_length,
                       uint8_t *state, size_t state_length,
@@ -47,13 +73,21 @@ uint64_t tracker_run(const uint8_t *image, size_t image_length,
 uint64_t tracker_double(const uint8_t *image, size_t image_length,
                         uint8_t *buffer, size_t buffer_length);
 
-/* The number of the refusal in an answer, 0 where the call did not turn back; and its place: a net for 4 to 7, an index for 11 and 13, else 0. */
+/* The number of the refusal in an answer, or 0 where the call did not turn back; and the refusal's place. */
 static inline uint32_t tracker_refusal(uint64_t answer) { return (uint32_t)(answer >> 32); }
 static inline uint32_t tracker_place(uint64_t answer) { return (uint32_t)answer; }
 
-/* The cycle in a run's answer, and the net of the flow in a step's or a run's answer that did not turn back: -1 where the verdict is clear. */
+/* The net of the flow in a step's or a run's answer; -1 where the verdict is clear, and -2 where the call turned back and there is no verdict. */
+static inline int32_t tracker_flow(uint64_t answer)
+{
+    return tracker_refusal(answer) != 0 ? -2 : (int32_t)(answer & 0xffff) - 1;
+}
+
+/* Whether a step or a run answered with a clear verdict: 0 for a flow, and 0 for a refusal. */
+static inline int tracker_is_clear(uint64_t answer) { return tracker_flow(answer) == -1; }
+
+/* The cycle in the answer of a run that did not turn back. */
 static inline uint32_t tracker_cycle(uint64_t answer) { return (uint32_t)answer >> 16; }
-static inline int32_t tracker_flow(uint64_t answer) { return (int32_t)(answer & 0xffff) - 1; }
 
 #ifdef __cplusplus
 }

@@ -30,7 +30,7 @@ static void print_bytes(const char *name, const uint8_t *bytes, size_t length)
         printf(" %u", (unsigned)bytes[i]);
 }
 
-/* Prints a refusal and answers 1, or answers 0 where the call did not turn back. The other readers of an answer are for that case alone. */
+/* Prints a refusal and answers 1, or answers 0 where the call did not turn back. */
 static int print_refusal(uint64_t answer)
 {
     if (tracker_refusal(answer) == 0)
@@ -49,7 +49,7 @@ static void print_verdict(uint64_t answer)
 {
     if (print_refusal(answer))
         return;
-    if (tracker_flow(answer) < 0)
+    if (tracker_is_clear(answer))
         printf("clear");
     else
         printf("flow at net %" PRId32, tracker_flow(answer));
@@ -78,6 +78,19 @@ static void power_up_and_step(void)
     print_bytes("nets", nets, sizeof nets);
     print_bytes("state", state, sizeof state);
     printf("\n");
+}
+
+/* A call that turned back has no verdict, so it is not clear. */
+static void step_on_bad_byte(void)
+{
+    uint8_t state[1] = { 0 };
+    uint8_t nets[6] = { 0 };
+    const uint8_t row[1] = { 4 };
+    uint64_t answer = tracker_step(counter, sizeof counter, state, sizeof state, row, sizeof row, nets, sizeof nets);
+
+    printf("step on 4: ");
+    print_verdict(answer);
+    printf("; %s\n", tracker_is_clear(answer) ? "clear" : "not clear");
 }
 
 static void power_up_and_run(void)
@@ -149,6 +162,7 @@ int main(void)
     print_done(tracker_check(counter, sizeof counter));
     printf("\n");
     power_up_and_step();
+    step_on_bad_byte();
     power_up_and_run();
     double_counter(doubled);
     run_doubled(doubled);

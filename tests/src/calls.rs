@@ -10,16 +10,8 @@ pub type Check = unsafe extern "C" fn(*const u8, usize) -> u64;
 pub type PowerUp = unsafe extern "C" fn(*const u8, usize, *mut u8, usize) -> u64;
 
 /// The type of `tracker_step`: the image, the state, the row and the nets.
-pub type Step = unsafe extern "C" fn(
-    *const u8,
-    usize,
-    *mut u8,
-    usize,
-    *const u8,
-    usize,
-    *mut u8,
-    usize,
-) -> u64;
+pub type Step =
+    unsafe extern "C" fn(*const u8, usize, *mut u8, usize, *const u8, usize, *mut u8, usize) -> u64;
 
 /// The type of `tracker_run`: the image, k, the state, the rows and the
 /// outputs.

@@ -7,7 +7,7 @@ use crate::expecting::expect;
 use crate::failure::Failure;
 use crate::lent::WrongByte;
 use crate::making::{make, Made};
-use crate::printing::hex;
+use crate::printing::{hex, hex_start};
 use crate::random::Random;
 use crate::tally::Tally;
 
@@ -19,6 +19,8 @@ pub struct Case<'a> {
     tally: &'a mut Tally,
     print: bool,
     made: usize,
+    /// The image that was printed last.
+    printed: Vec<u8>,
 }
 
 impl<'a> Case<'a> {
@@ -38,6 +40,7 @@ impl<'a> Case<'a> {
             tally,
             print,
             made: 0,
+            printed: Vec::new(),
         }
     }
 
@@ -107,14 +110,18 @@ impl<'a> Case<'a> {
         made
     }
 
-    fn print_call(&self, image: &[u8], call: &Call) {
+    /// Prints a call, with its image unless that was printed just before.
+    fn print_call(&mut self, image: &[u8], call: &Call) {
         println!("call {}: {}", self.made, call.in_words(image));
-        println!("  image {}", hex(image));
+        if self.made == 1 || self.printed != image {
+            println!("  image {}", hex(image));
+            self.printed = image.to_vec();
+        }
         if call.name.has_state() {
-            println!("  state {}", hex(&call.state));
+            println!("  state {}", hex_start(&call.state));
         }
         if call.name.has_rows() {
-            println!("  {} {}", call.name.rows(), hex(&call.rows));
+            println!("  {} {}", call.name.rows(), hex_start(&call.rows));
         }
     }
 

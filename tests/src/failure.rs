@@ -42,21 +42,17 @@ impl Failure {
 impl fmt::Display for WrongByte {
     fn fmt(&self, f: &mut fmt::Formatter) -> fmt::Result {
         match self.spot {
-            Spot::Before(distance) => {
-                write!(
-                    f,
-                    "guard byte {distance} before the {} was written: it",
-                    self.buffer
-                )?
-            }
+            Spot::Before(distance) => write!(
+                f,
+                "guard byte {distance} before the {} was written: it",
+                self.buffer
+            )?,
             Spot::Inside(index) => write!(f, "byte {index} of the {}", self.buffer)?,
-            Spot::After(distance) => {
-                write!(
-                    f,
-                    "guard byte {distance} behind the {} was written: it",
-                    self.buffer
-                )?
-            }
+            Spot::After(distance) => write!(
+                f,
+                "guard byte {distance} behind the {} was written: it",
+                self.buffer
+            )?,
         }
         write!(f, " is {}, expected {}", self.is, self.expected)
     }

@@ -1,10 +1,12 @@
 //! Counts of what was tried, so that a test can ask whether it tried enough.
 
+use std::fmt;
+
 use crate::call::{Call, Name};
 use crate::coding::{number_of, place_of};
 
 /// The counts of all calls that went well.
-#[derive(Default, Debug)]
+#[derive(Default)]
 pub struct Tally {
     /// Calls that were compared with the reference.
     pub compared: u64,
@@ -38,9 +40,30 @@ impl Tally {
 
     fn note_accepted(&mut self, name: Name, answer: u64) {
         self.accepted[name as usize] += 1;
-        if matches!(name, Name::Step | Name::Run) && answer % 65_536 != 0 {
+        if matches!(name, Name::Step | Name::Run) && answer % 65_536 > 0 {
             self.flows += 1;
         }
+    }
+}
+
+impl fmt::Display for Tally {
+    fn fmt(&self, f: &mut fmt::Formatter) -> fmt::Result {
+        let (all, alone) = (self.calls(), self.alone);
+        writeln!(f, "{all} calls, {alone} of them for properties alone")?;
+        for (number, count) in self.numbers.iter().enumerate().skip(1) {
+            let [first, last, between] = self.places[number];
+            write!(f, "refusal {number:>2} {count:>9}")?;
+            if first + last + between > 0 {
+                write!(f, ": first {first}, last {last}, between {between}")?;
+            }
+            writeln!(f)?;
+        }
+        let [check, power_up, step, run, double] = self.accepted;
+        writeln!(
+            f,
+            "accepted: check {check}, power-up {power_up}, step {step}, run {run}, double {double}"
+        )?;
+        write!(f, "steps and runs with a flow: {}", self.flows)
     }
 }
 

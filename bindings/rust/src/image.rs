@@ -52,8 +52,8 @@ pub struct Sizes {
 /// ```
 /// use tracker::{sizes, Sizes};
 ///
-/// let head = [6, 0, 1, 0, 1, 0, 0, 1];
-/// let expected = Sizes { nets: 6, inputs: 1, registers: 1, outputs: 256 };
+/// let head = [6, 0, 1, 0, 2, 0, 0, 1];
+/// let expected = Sizes { nets: 6, inputs: 1, registers: 2, outputs: 256 };
 /// assert_eq!(sizes(&head), Some(expected));
 /// assert_eq!(sizes(&head[..7]), None);
 /// ```

@@ -1,0 +1,71 @@
+//! The counts of a good netlist, from which the right lengths of all buffers
+//! follow.
+
+use crate::call::{Call, Name};
+use crate::cycles::MOST_CYCLES;
+use crate::nets::{image_length, sizes_of, Net, GROUPS, MOST_NETS, OUT};
+
+#[derive(Clone, Debug)]
+pub struct Counts {
+    pub nets: usize,
+    pub inputs: usize,
+    pub registers: usize,
+    pub outputs: usize,
+    /// The number of nets of the doubled netlist, which may be above 8,192.
+    pub doubled: usize,
+    /// The net numbers of the outputs.
+    pub outs: Vec<usize>,
+    /// The first net of each net's group in the doubled netlist, and behind
+    /// them `doubled`.
+    pub groups: Vec<usize>,
+}
+
+impl Counts {
+    pub fn of(nets: &[Net]) -> Counts {
+        let [_, inputs, registers, outputs] = sizes_of(nets).map(usize::from);
+        let outs = (0..nets.len()).filter(|number| nets[*number].kind == OUT);
+        let mut groups = vec![0];
+        for net in nets {
+            groups.push(groups[groups.len() - 1] + GROUPS[usize::from(net.kind)]);
+        }
+        Counts {
+            nets: nets.len(),
+            inputs,
+            registers,
+            outputs,
+            doubled: groups[nets.len()],
+            outs: outs.collect(),
+            groups,
+        }
+    }
+
+    /// A step or a run has a good k and buffers of the right lengths.
+    pub fn fit(&self, call: &Call) -> bool {
+        let (rows, filled) = match call.name {
+            Name::Step => (self.inputs, self.nets),
+            Name::Run if call.k <= MOST_CYCLES => (call.k * self.inputs, call.k * self.outputs),
+            _ => return false,
+        };
+        call.state.len() == self.registers && call.rows.len() == rows && call.filled.len() == filled
+    }
+
+    /// The doubled netlist is not above 8,192 nets.
+    pub fn doubles(&self) -> bool {
+        self.doubled <= MOST_NETS
+    }
+
+    /// The exact length of the doubled image.
+    pub fn doubled_length(&self) -> usize {
+        image_length(self.doubled)
+    }
+
+    /// The value net of a net in the doubled netlist.
+    pub fn value_net(&self, number: usize) -> usize {
+        self.groups[number]
+    }
+
+    /// The mark net of a net in the doubled netlist.
+    pub fn mark_net(&self, number: usize) -> usize {
+        self.groups[number + 1] - 1
+    }
+}

@@ -1,0 +1,44 @@
+//! The doubled netlist that the library writes, and its rows.
+
+use crate::call::Call;
+use crate::case::Case;
+use crate::counts::Counts;
+use crate::failure::Failure;
+use crate::nets::decode;
+
+/// The doubled image and its counts.
+pub struct Doubled {
+    pub image: Vec<u8>,
+    pub counts: Counts,
+}
+
+/// Has the library double a good image that does not draw 15. It must write an
+/// image that it accepts, with twice as many inputs, registers and outputs.
+pub fn double(case: &mut Case, image: &[u8], counts: &Counts) -> Result<Doubled, Box<Failure>> {
+    let mut double = Call::double(case.random.bytes(counts.doubled_length()));
+    let answer = case.ask(image, &mut double)?;
+    if answer != 0 {
+        return Err(case.broken(image, &double, answer, "a good image is doubled"));
+    }
+    let checked = case.ask(&double.filled, &mut Call::check())?;
+    let nets = match decode(&double.filled) {
+        Some(nets) if checked == 0 => nets,
+        _ => return Err(case.broken(image, &double, answer, "a doubled image is accepted")),
+    };
+    let twice = Counts::of(&nets);
+    let are = [twice.inputs, twice.registers, twice.outputs];
+    let expected = [counts.inputs, counts.registers, counts.outputs].map(|count| 2 * count);
+    if are != expected {
+        let property = "a doubled netlist has two inputs, registers and outputs for one";
+        return Err(case.broken(image, &double, answer, property));
+    }
+    Ok(Doubled {
+        image: double.filled,
+        counts: twice,
+    })
+}
+
+/// Row bytes for the doubled netlist: each byte v + 2 x t becomes v and t.
+pub fn split(rows: &[u8]) -> Vec<u8> {
+    rows.iter().flat_map(|byte| [byte % 2, byte / 2]).collect()
+}

@@ -1,0 +1,84 @@
+//! Random calls on a good netlist, with lengths that are right or made wrong.
+
+use crate::bytes::{resize, spoil, tracked};
+use crate::call::{Call, Name};
+use crate::counts::Counts;
+use crate::cycles::{few, with_high_bits, wrapping, MOST_CYCLES, NOTED};
+use crate::random::Random;
+
+/// A step on a random row, with right lengths. The buffer holds any bytes.
+pub fn step(random: &mut Random, counts: &Counts, state: &[u8]) -> Call {
+    let row = tracked(random, counts.inputs);
+    Call::step(state.to_vec(), row, random.bytes(counts.nets))
+}
+
+/// A run of k cycles on random rows, with right lengths.
+pub fn run(random: &mut Random, counts: &Counts, k: usize, state: &[u8]) -> Call {
+    let rows = tracked(random, k * counts.inputs);
+    let outputs = random.bytes(k * counts.outputs);
+    Call::run(k, state.to_vec(), rows, outputs)
+}
+
+/// A doubling with a buffer of the right length. Where no length is right, the
+/// buffer has any.
+pub fn double(random: &mut Random, counts: &Counts) -> Call {
+    let length = if counts.doubles() {
+        counts.doubled_length()
+    } else {
+        random.pick(&[0, 1, 8, 57_352, counts.doubled_length()])
+    };
+    Call::double(random.bytes(length))
+}
+
+/// Any call with right lengths. The state is lent where the call takes one; for
+/// a power-up, any bytes are.
+pub fn any(random: &mut Random, counts: &Counts, state: &[u8]) -> Call {
+    match random.below(12) {
+        0 => Call::check(),
+        1 => double(random, counts),
+        2 | 3 => Call::power_up(random.bytes(counts.registers)),
+        4..=7 => step(random, counts, state),
+        _ => {
+            let k = few(random);
+            run(random, counts, k, state)
+        }
+    }
+}
+
+/// Makes one thing wrong in a call: a length, some bytes, or k. With
+/// `state_too` it may be the state as well.
+pub fn put_fault(random: &mut Random, counts: &Counts, call: &mut Call, state_too: bool) {
+    match random.below(if state_too { 8 } else { 6 }) {
+        0 if call.name.has_rows() => resize(random, &mut call.rows),
+        1 | 2 if call.name.has_rows() => spoil(random, &mut call.rows),
+        3 | 4 if call.name == Name::Run => put_other_cycles(random, counts, call),
+        6 if call.name.has_state() => resize(random, &mut call.state),
+        7 if call.name.has_state() => spoil(random, &mut call.state),
+        _ if call.name.has_filled() => resize(random, &mut call.filled),
+        _ if state_too => resize(random, &mut call.state),
+        _ => {}
+    }
+}
+
+/// Gives a run another k. The buffers stay as they were, or get the lengths
+/// that belong to this k, or those that belong to the product once its high
+/// bits are lost. They never get very long.
+fn put_other_cycles(random: &mut Random, counts: &Counts, call: &mut Call) {
+    call.k = match random.below(5) {
+        0 => with_high_bits(random, call.k),
+        1 if counts.inputs > 0 => wrapping(random, counts.inputs),
+        2 if counts.outputs > 0 => wrapping(random, counts.outputs),
+        3 => random.between(0, MOST_CYCLES + 2),
+        _ => random.pick(&NOTED),
+    };
+    if random.chance(2, 3) {
+        let rows = call.k.wrapping_mul(counts.inputs);
+        if rows <= 70_000 {
+            call.rows = tracked(random, rows);
+        }
+        let outputs = call.k.wrapping_mul(counts.outputs);
+        if outputs <= 70_000 {
+            call.filled = random.bytes(outputs);
+        }
+    }
+}

@@ -1,0 +1,51 @@
+//! All good netlists of 1, 2 and 3 nets. Each is stepped from all states on all
+//! rows, run, and doubled.
+
+use crate::all::{all_bytes, chosen};
+use crate::call::Call;
+use crate::case::Case;
+use crate::counts::Counts;
+use crate::drawing;
+use crate::failure::Outcome;
+use crate::nets::{encode, Net};
+
+/// The numbers of netlists of one, two and three nets: for each net as many
+/// factors as there are good nets with its number.
+const ONE: u64 = 6;
+const TWO: u64 = 9 * 16;
+const THREE: u64 = 12 * 19 * 38;
+
+pub const CASES: u64 = ONE + TWO + THREE;
+
+pub fn run(case: &mut Case) -> Outcome {
+    let nets = netlist(case.seed % CASES);
+    let counts = Counts::of(&nets);
+    let image = encode(&nets);
+    case.compare(&image, &mut Call::check())?;
+    let mut powered = Call::power_up(case.random.bytes(counts.registers));
+    case.compare(&image, &mut powered)?;
+    for state in all_bytes(counts.registers) {
+        for row in all_bytes(counts.inputs) {
+            let buffer = case.random.bytes(counts.nets);
+            let mut step = Call::step(state.clone(), row, buffer);
+            case.compare(&image, &mut step)?;
+        }
+        let mut run = drawing::run(&mut case.random, &counts, 4, &state);
+        case.compare(&image, &mut run)?;
+    }
+    let mut double = drawing::double(&mut case.random, &counts);
+    case.compare(&image, &mut double)?;
+    Ok(())
+}
+
+/// The netlist with this place among all of them.
+fn netlist(place: u64) -> Vec<Net> {
+    let mut place = place;
+    for (size, ways) in [(1, ONE), (2, TWO), (3, THREE)] {
+        if place < ways {
+            return chosen(place, ways, size, size);
+        }
+        place -= ways;
+    }
+    unreachable!("the place is below the number of netlists")
+}

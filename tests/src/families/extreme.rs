@@ -1,0 +1,71 @@
+//! Runs of 4,096 cycles on netlists of 8,192 nets, with the longest rows,
+//! outputs and states that there can be, and a bad byte at their very ends.
+
+use crate::bytes::tracked;
+use crate::case::Case;
+use crate::counts::Counts;
+use crate::cycles::MOST_CYCLES;
+use crate::drawing;
+use crate::failure::Outcome;
+use crate::netlists;
+use crate::nets::{encode, Net, CONST, INPUT, MOST_NETS, NOT, OUT, REG};
+
+pub const CASES: u64 = 8;
+
+pub fn run(case: &mut Case) -> Outcome {
+    let nets = netlist(case);
+    let counts = Counts::of(&nets);
+    let image = encode(&nets);
+    let state = tracked(&mut case.random, counts.registers);
+    let mut run = drawing::run(&mut case.random, &counts, MOST_CYCLES, &state);
+    case.compare(&image, &mut run)?;
+    let last_row_byte = run.rows.len().checked_sub(1);
+    let last_state_byte = run.state.len().checked_sub(1);
+    if let Some(index) = last_row_byte {
+        run.rows[index] = 4;
+        case.compare(&image, &mut run)?;
+    }
+    if let Some(index) = last_state_byte {
+        run.state[index] = 255;
+        case.compare(&image, &mut run)?;
+    }
+    Ok(())
+}
+
+/// The netlist of a case.
+fn netlist(case: &mut Case) -> Vec<Net> {
+    match case.seed % CASES {
+        // 8,192 inputs: rows of 33,554,432 bytes in all.
+        0 => vec![Net::new(INPUT, 0, 0, 0); MOST_NETS],
+        // One input and 8,191 outputs of it, of which the last is protected.
+        1 => {
+            let mut nets = vec![Net::new(OUT, 0, 0, 0); MOST_NETS];
+            nets[0] = Net::new(INPUT, 0, 0, 0);
+            nets[MOST_NETS - 1] = Net::new(OUT, 0, 1, 0);
+            nets
+        }
+        // A ring of 8,192 registers, each of which takes the next one's byte.
+        2 => {
+            let next = |number| Net::new(REG, (number + 1) % MOST_NETS, number % 3, 0);
+            (0..MOST_NETS).map(next).collect()
+        }
+        // Neither inputs nor registers nor outputs.
+        3 => vec![Net::new(CONST, 1, 0, 0); MOST_NETS],
+        // A chain of NOTs behind an input, and a protected output at its end.
+        4 => {
+            let mut nets = vec![Net::new(INPUT, 0, 0, 0)];
+            nets.extend((1..MOST_NETS - 1).map(|number| Net::new(NOT, number - 1, 0, 0)));
+            nets.push(Net::new(OUT, MOST_NETS - 2, 1, 0));
+            nets
+        }
+        // A chain of registers behind an input. What is marked there reaches
+        // the protected output after 3,000 cycles.
+        5 => {
+            let mut nets = vec![Net::new(INPUT, 0, 0, 0)];
+            nets.extend((1..3001).map(|number| Net::new(REG, number - 1, 0, 0)));
+            nets.push(Net::new(OUT, 3000, 1, 0));
+            nets
+        }
+        _ => netlists::of_size(&mut case.random, MOST_NETS),
+    }
+}

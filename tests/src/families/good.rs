@@ -1,0 +1,46 @@
+//! Small good netlists: all five calls with right lengths.
+
+use crate::bytes::tracked;
+use crate::call::Call;
+use crate::case::Case;
+use crate::counts::Counts;
+use crate::cycles::few;
+use crate::drawing;
+use crate::failure::Outcome;
+use crate::netlists;
+use crate::nets::encode;
+
+pub fn run(case: &mut Case) -> Outcome {
+    let nets = netlists::small(&mut case.random);
+    let k = few(&mut case.random);
+    calls(case, &nets, k)
+}
+
+/// Checks a netlist, powers it up, steps and runs from there, steps and runs
+/// from any state, and doubles it.
+pub fn calls(case: &mut Case, nets: &[crate::nets::Net], k: usize) -> Outcome {
+    let counts = Counts::of(nets);
+    let image = encode(nets);
+    case.compare(&image, &mut Call::check())?;
+    let mut powered = Call::power_up(case.random.bytes(counts.registers));
+    case.compare(&image, &mut powered)?;
+    cycles(case, &image, &counts, k, powered.state)?;
+    let state = tracked(&mut case.random, counts.registers);
+    cycles(case, &image, &counts, k, state)?;
+    let mut double = drawing::double(&mut case.random, &counts);
+    case.compare(&image, &mut double)?;
+    Ok(())
+}
+
+/// Some steps and then a run, with one state.
+fn cycles(case: &mut Case, image: &[u8], counts: &Counts, k: usize, state: Vec<u8>) -> Outcome {
+    let mut state = state;
+    for _ in 0..3 {
+        let mut step = drawing::step(&mut case.random, counts, &state);
+        case.compare(image, &mut step)?;
+        state = step.state;
+    }
+    let mut run = drawing::run(&mut case.random, counts, k, &state);
+    case.compare(image, &mut run)?;
+    Ok(())
+}

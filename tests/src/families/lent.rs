@@ -1,0 +1,42 @@
+//! Good images with wrong buffers: lengths, bad bytes and k, one fault or
+//! several at once.
+
+use crate::bytes::tracked;
+use crate::call::{Call, Name};
+use crate::case::Case;
+use crate::counts::Counts;
+use crate::cycles::few;
+use crate::drawing;
+use crate::failure::Outcome;
+use crate::netlists;
+use crate::nets::encode;
+
+pub fn run(case: &mut Case) -> Outcome {
+    let nets = netlists::mostly_small(&mut case.random, 150);
+    let counts = Counts::of(&nets);
+    let image = encode(&nets);
+    for name in [Name::PowerUp, Name::Step, Name::Run, Name::Double] {
+        let mut call = right_call(case, &counts, name);
+        for _ in 0..case.random.pick(&[1, 1, 1, 2, 2, 3]) {
+            drawing::put_fault(&mut case.random, &counts, &mut call, true);
+        }
+        case.compare(&image, &mut call)?;
+    }
+    Ok(())
+}
+
+/// A call with right lengths on any state.
+fn right_call(case: &mut Case, counts: &Counts, name: Name) -> Call {
+    let random = &mut case.random;
+    let state = tracked(random, counts.registers);
+    match name {
+        Name::Check => Call::check(),
+        Name::PowerUp => Call::power_up(random.bytes(counts.registers)),
+        Name::Step => drawing::step(random, counts, &state),
+        Name::Run => {
+            let k = few(random);
+            drawing::run(random, counts, k, &state)
+        }
+        Name::Double => drawing::double(random, counts),
+    }
+}

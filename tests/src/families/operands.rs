@@ -1,0 +1,46 @@
+//! One net of a small netlist takes every kind, and its operands take every
+//! mix of some telling values. The image is checked each time.
+
+use crate::all::all_nets;
+use crate::call::Call;
+use crate::case::Case;
+use crate::failure::Outcome;
+use crate::nets::{encode_with, sizes_of, Net};
+
+/// The places of the net: net 0 of 1, nets 0 and 1 of 2, nets 0 to 2 of 3.
+const PLACES: [(usize, usize); 6] = [(0, 1), (0, 2), (1, 2), (0, 3), (1, 3), (2, 3)];
+
+const KINDS: [u8; 12] = [0, 1, 2, 3, 4, 5, 6, 7, 8, 9, 136, 255];
+
+const VALUES: [usize; 10] = [0, 1, 2, 3, 4, 255, 256, 257, 8192, 65_535];
+
+pub const CASES: u64 = (PLACES.len() * KINDS.len()) as u64;
+
+pub fn run(case: &mut Case) -> Outcome {
+    let (number, size) = PLACES[(case.seed % CASES) as usize / KINDS.len()];
+    let kind = KINDS[case.seed as usize % KINDS.len()];
+    let mut nets = Vec::new();
+    for other in 0..size {
+        nets.push(case.random.pick(&all_nets(other, size)));
+    }
+    for a in VALUES {
+        for b in VALUES {
+            for c in VALUES {
+                nets[number] = Net::new(kind, a, b, c);
+                check(case, &nets)?;
+            }
+        }
+    }
+    Ok(())
+}
+
+/// Checks an image with the right sizes, or, in some calls, with one of I, R
+/// and O that is too large.
+fn check(case: &mut Case, nets: &[Net]) -> Outcome {
+    let mut sizes = sizes_of(nets);
+    if case.random.chance(1, 16) {
+        sizes[case.random.between(1, 3)] += 1;
+    }
+    case.compare(&encode_with(sizes, nets), &mut Call::check())?;
+    Ok(())
+}

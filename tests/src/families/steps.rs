@@ -1,0 +1,30 @@
+//! A run of k cycles leaves what k steps leave: a property of the library
+//! alone.
+
+use crate::bytes::tracked;
+use crate::call::Call;
+use crate::case::Case;
+use crate::counts::Counts;
+use crate::cycles::few;
+use crate::drawing;
+use crate::failure::Outcome;
+use crate::netlists;
+use crate::nets::encode;
+use crate::replay::{same_as_run, steps};
+
+pub fn run(case: &mut Case) -> Outcome {
+    let nets = netlists::mostly_small(&mut case.random, 100);
+    let counts = Counts::of(&nets);
+    let image = encode(&nets);
+    let mut state = tracked(&mut case.random, counts.registers);
+    if case.random.chance(1, 2) {
+        let mut powered = Call::power_up(state);
+        case.ask(&image, &mut powered)?;
+        state = powered.state;
+    }
+    let k = few(&mut case.random);
+    let mut run = drawing::run(&mut case.random, &counts, k, &state);
+    let answer = case.ask(&image, &mut run)?;
+    let cycles = steps(case, &image, &counts, k, &state, &run.rows)?;
+    same_as_run(case, &image, &counts, &run, answer, &state, &cycles)
+}

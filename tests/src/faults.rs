@@ -1,0 +1,152 @@
+//! Faults of an image, one function for each of the refusals 1 to 8.
+//!
+//! Each puts in what its refusal is for. Where several faults meet, or where a
+//! fault has side effects, the reference says which refusal comes first.
+
+use crate::nets::{
+    encode_with, image_length, listed_of, pins_of, setting_of, sizes_of, Net, AND, CONST, INPUT,
+    MOST_NETS, MUX, NOT, OR, OUT, REG, XOR,
+};
+use crate::random::Random;
+
+/// A fault: the refusal that it is for, and the net where it is put. The net is
+/// of no account for 1, 2, 3 and 8.
+#[derive(Clone, Copy)]
+pub struct Fault {
+    pub number: usize,
+    pub net: usize,
+}
+
+/// The image of a good netlist with these faults in it.
+pub fn damaged(random: &mut Random, nets: &[Net], faults: &[Fault]) -> Vec<u8> {
+    let mut nets = nets.to_vec();
+    let mut sizes = sizes_of(&nets);
+    for fault in faults {
+        let net = &mut nets[fault.net];
+        match fault.number {
+            4 => net.kind = bad_kind(random, net.kind),
+            5 => put_bad_pin(random, net, fault.net, usize::from(sizes[0])),
+            6 => put_bad_setting(random, net),
+            7 => put_unlisted(random, net),
+            8 => put_wrong_count(random, &mut sizes),
+            _ => {}
+        }
+    }
+    let mut image = encode_with(sizes, &nets);
+    for fault in faults {
+        match fault.number {
+            1 => image.truncate(random.below(8)),
+            2 => put_bad_size(random, &mut image),
+            3 => put_wrong_length(random, &mut image),
+            _ => {}
+        }
+    }
+    image
+}
+
+/// A kind above 8. Often its low bits are those of the kind that was there.
+fn bad_kind(random: &mut Random, kind: u8) -> u8 {
+    let any = random.between(9, 255) as u8;
+    random.pick(&[9, 10, 255, any, kind | 16, kind | 128])
+}
+
+/// Gives a pin a number that it must not have. A net without pins first
+/// becomes one that has some.
+fn put_bad_pin(random: &mut Random, net: &mut Net, number: usize, size: usize) {
+    if pins_of(net.kind) == 0 {
+        *net = Net::new(random.pick(&[REG, NOT, AND, OR, XOR, MUX, OUT]), 0, 0, 0);
+    }
+    let index = random.below(pins_of(net.kind));
+    let limit = if net.kind == REG { size } else { number };
+    net.operands[index] = bad_number(random, limit, net.operands[index]);
+}
+
+/// A number that is not below the limit: just at it, or with a high byte set.
+fn bad_number(random: &mut Random, limit: usize, was: u16) -> u16 {
+    let any = random.between(limit, 65_535) as u16;
+    let limit = limit as u16;
+    let high_byte = random.between(1, 255) as u16 * 256;
+    match random.below(8) {
+        0 | 1 => limit,
+        2 => limit + 1,
+        3 => was | 0x8000,
+        4 => limit.max(was % 256 + high_byte),
+        5 => limit.max(high_byte),
+        6 => 65_535,
+        _ => any,
+    }
+}
+
+/// Gives a CONST, a start or a policy a value that is too large. Another net
+/// first becomes a CONST.
+fn put_bad_setting(random: &mut Random, net: &mut Net) {
+    let (index, most) = match setting_of(net.kind) {
+        Some(setting) => setting,
+        None => {
+            *net = Net::new(CONST, 0, 0, 0);
+            (0, 1)
+        }
+    };
+    net.operands[index] = bad_number(random, usize::from(most) + 1, net.operands[index]);
+}
+
+/// Gives an operand that is not listed a value other than 0. A MUX, which has
+/// none such, becomes an INPUT.
+fn put_unlisted(random: &mut Random, net: &mut Net) {
+    if listed_of(net.kind) == 3 {
+        *net = Net::new(INPUT, 0, 0, 0);
+    }
+    let index = random.between(listed_of(net.kind), 2);
+    let any = random.between(1, 65_535) as u16;
+    net.operands[index] = random.pick(&[1, 2, 256, 0x8000, 65_535, any]);
+}
+
+/// Makes I, R or O wrong, or swaps two of them.
+fn put_wrong_count(random: &mut Random, sizes: &mut [u16; 4]) {
+    let index = random.between(1, 3);
+    let right = sizes[index];
+    sizes[index] = match random.below(6) {
+        0 => right.wrapping_sub(1),
+        1 => right.wrapping_add(1),
+        2 => right ^ 256,
+        3 => 65_535 - right,
+        4 => random.below(65_536) as u16,
+        _ => {
+            let other = random.between(1, 3);
+            sizes.swap(index, other);
+            return;
+        }
+    };
+}
+
+/// Makes N 0 or larger than 8,192. The length may be right for that N.
+fn put_bad_size(random: &mut Random, image: &mut Vec<u8>) {
+    if image.len() < 8 {
+        return;
+    }
+    let any = random.between(MOST_NETS + 1, 65_535);
+    let high_bit = usize::from(image[0]) + 256 * usize::from(image[1]) + 32_768;
+    let size = random.pick(&[0, 8193, 8194, 16_384, 32_768, 65_535, any, high_bit]);
+    image[..2].copy_from_slice(&(size as u16).to_le_bytes());
+    if size <= 8194 && random.chance(1, 2) {
+        image.resize(image_length(size), 0);
+    }
+}
+
+/// Makes the length or N a little or much different, with N still good.
+fn put_wrong_length(random: &mut Random, image: &mut Vec<u8>) {
+    if image.len() < 8 {
+        return;
+    }
+    let length = image.len();
+    match random.below(8) {
+        0 => image.truncate(length - 1),
+        1 => image.push(random.byte()),
+        2 => image.resize(length + 7, 0),
+        3 => image.truncate(length.saturating_sub(7).max(8)),
+        4 => image.truncate(8),
+        5 => image.resize(2 * length, 0),
+        6 => image[0] ^= 1,
+        _ => image[1] ^= 1 << random.below(5),
+    }
+}

@@ -1,0 +1,37 @@
+//! A harness that compares the compiled tracker with the reference, call by
+//! call and byte by byte, and that tries properties of the compiled tracker
+//! alone.
+
+mod all;
+pub mod bytes;
+mod call;
+mod calls;
+mod case;
+mod coding;
+mod counts;
+mod cycles;
+mod doubled;
+mod drawing;
+mod driving;
+mod expecting;
+mod failure;
+mod families;
+pub mod faults;
+mod kinds;
+mod lent;
+mod making;
+pub mod netlists;
+pub mod nets;
+mod pins;
+pub mod printing;
+pub mod random;
+mod replay;
+mod tally;
+
+pub use call::Name;
+pub use calls::{Calls, LIBRARY};
+pub use driving::{run_case, run_family};
+pub use failure::{Failure, Outcome};
+pub use families::{named, Family, FAMILIES};
+pub use lent::{Spot, WrongByte};
+pub use tally::Tally;

@@ -1,0 +1,105 @@
+//! Stand-ins that get the cycles wrong: the clock, or what a run leaves.
+
+use crate::parts::{bytes, bytes_mut, kind, operand, refusal, size};
+use tests::{Calls, LIBRARY};
+
+/// Steps without a clock: the state stays as it was.
+pub const NOT_CLOCKED: Calls = Calls {
+    step: step_not_clocked,
+    ..LIBRARY
+};
+
+#[rustfmt::skip]
+unsafe extern "C" fn step_not_clocked(
+    image: *const u8, il: usize, state: *mut u8, sl: usize,
+    row: *const u8, rl: usize, nets: *mut u8, nl: usize,
+) -> u64 {
+    let before = bytes(state, sl).to_vec();
+    let answer = (LIBRARY.step)(image, il, state, sl, row, rl, nets, nl);
+    bytes_mut(state, sl).copy_from_slice(&before);
+    answer
+}
+
+/// Clocks the registers one after another, so that one sees another's new byte.
+pub const CLOCKED_IN_TURN: Calls = Calls {
+    step: step_clocked_in_turn,
+    ..LIBRARY
+};
+
+#[rustfmt::skip]
+unsafe extern "C" fn step_clocked_in_turn(
+    image: *const u8, il: usize, state: *mut u8, sl: usize,
+    row: *const u8, rl: usize, nets: *mut u8, nl: usize,
+) -> u64 {
+    let answer = (LIBRARY.step)(image, il, state, sl, row, rl, nets, nl);
+    if refusal(answer) != 0 {
+        return answer;
+    }
+    let (image, state) = (bytes(image, il), bytes_mut(state, sl));
+    let mut seen = bytes(nets, nl).to_vec();
+    let registers = (0..nl).filter(|net| kind(image, *net) == 2);
+    for (index, net) in registers.enumerate() {
+        seen[net] = seen[operand(image, net, 0)];
+        state[index] = seen[net];
+    }
+    answer
+}
+
+/// Fills the outputs up to the first flow only.
+pub const STOPS_AT_FLOW: Calls = Calls {
+    run: run_stops_at_flow,
+    ..LIBRARY
+};
+
+#[rustfmt::skip]
+unsafe extern "C" fn run_stops_at_flow(
+    image: *const u8, il: usize, k: usize, state: *mut u8, sl: usize,
+    rows: *const u8, rl: usize, outputs: *mut u8, ol: usize,
+) -> u64 {
+    let before = bytes(outputs, ol).to_vec();
+    let answer = (LIBRARY.run)(image, il, k, state, sl, rows, rl, outputs, ol);
+    if refusal(answer) == 0 && answer % 65_536 > 0 {
+        let cycles = (answer / 65_536) as usize + 1;
+        let filled = cycles * size(bytes(image, il), 3);
+        bytes_mut(outputs, ol)[filled..].copy_from_slice(&before[filled..]);
+    }
+    answer
+}
+
+/// Works out cycle 0 and copies its outputs onward.
+pub const COPIES_CYCLE_0: Calls = Calls {
+    run: run_copies_cycle_0,
+    ..LIBRARY
+};
+
+#[rustfmt::skip]
+unsafe extern "C" fn run_copies_cycle_0(
+    image: *const u8, il: usize, k: usize, state: *mut u8, sl: usize,
+    rows: *const u8, rl: usize, outputs: *mut u8, ol: usize,
+) -> u64 {
+    let answer = (LIBRARY.run)(image, il, k, state, sl, rows, rl, outputs, ol);
+    if refusal(answer) == 0 && k > 0 {
+        let outputs = bytes_mut(outputs, ol);
+        for index in ol / k..ol {
+            outputs[index] = outputs[index % (ol / k)];
+        }
+    }
+    answer
+}
+
+/// Runs and leaves the state with which it began.
+pub const RUN_KEEPS_STATE: Calls = Calls {
+    run: run_keeps_state,
+    ..LIBRARY
+};
+
+#[rustfmt::skip]
+unsafe extern "C" fn run_keeps_state(
+    image: *const u8, il: usize, k: usize, state: *mut u8, sl: usize,
+    rows: *const u8, rl: usize, outputs: *mut u8, ol: usize,
+) -> u64 {
+    let before = bytes(state, sl).to_vec();
+    let answer = (LIBRARY.run)(image, il, k, state, sl, rows, rl, outputs, ol);
+    bytes_mut(state, sl).copy_from_slice(&before);
+    answer
+}

@@ -1,0 +1,58 @@
+//! Stand-ins that try the conditions of refusals in a wrong order, or with a
+//! number of cycles that lost its high bits.
+
+use crate::parts::{bytes, refusal, size};
+use tests::{Calls, LIBRARY};
+
+const ONE: u64 = 1 << 32;
+
+/// Tries the length of the net buffer before the state and the row.
+pub const BUFFER_FIRST: Calls = Calls {
+    step: step_buffer_first,
+    ..LIBRARY
+};
+
+#[rustfmt::skip]
+unsafe extern "C" fn step_buffer_first(
+    image: *const u8, il: usize, state: *mut u8, sl: usize,
+    row: *const u8, rl: usize, nets: *mut u8, nl: usize,
+) -> u64 {
+    let answer = (LIBRARY.step)(image, il, state, sl, row, rl, nets, nl);
+    match refusal(answer) {
+        10..=13 if nl != size(bytes(image, il), 0) => 14 * ONE,
+        _ => answer,
+    }
+}
+
+/// Takes the low 32 bits of k alone.
+pub const NARROW_K: Calls = Calls {
+    run: run_narrow_k,
+    ..LIBRARY
+};
+
+#[rustfmt::skip]
+unsafe extern "C" fn run_narrow_k(
+    image: *const u8, il: usize, k: usize, state: *mut u8, sl: usize,
+    rows: *const u8, rl: usize, outputs: *mut u8, ol: usize,
+) -> u64 {
+    let k = k % (1 << 32);
+    (LIBRARY.run)(image, il, k, state, sl, rows, rl, outputs, ol)
+}
+
+/// Tries the product of k and I, which may wrap around, before k itself.
+pub const PRODUCT_FIRST: Calls = Calls {
+    run: run_product_first,
+    ..LIBRARY
+};
+
+#[rustfmt::skip]
+unsafe extern "C" fn run_product_first(
+    image: *const u8, il: usize, k: usize, state: *mut u8, sl: usize,
+    rows: *const u8, rl: usize, outputs: *mut u8, ol: usize,
+) -> u64 {
+    let answer = (LIBRARY.run)(image, il, k, state, sl, rows, rl, outputs, ol);
+    match refusal(answer) {
+        9 if rl != k.wrapping_mul(size(bytes(image, il), 1)) => 12 * ONE,
+        _ => answer,
+    }
+}

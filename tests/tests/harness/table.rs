@@ -1,0 +1,133 @@
+//! All broken stand-ins, with the families that have to catch them and what
+//! their reports have to show.
+
+use crate::{answers, cycles, doubling, lent_bytes, order, rules};
+use tests::{Calls, Failure, Spot};
+
+pub struct StandIn {
+    pub name: &'static str,
+    pub calls: Calls,
+    pub caught_by: &'static [&'static str],
+    pub shows: fn(&Failure) -> bool,
+}
+
+const fn stand_in(
+    name: &'static str,
+    calls: Calls,
+    caught_by: &'static [&'static str],
+    shows: fn(&Failure) -> bool,
+) -> StandIn {
+    StandIn {
+        name,
+        calls,
+        caught_by,
+        shows,
+    }
+}
+
+/// The two answers differ, or a property of the answer does not hold.
+fn answer(failure: &Failure) -> bool {
+    failure.property.is_some() || (failure.expected.is_some() && differs(failure))
+}
+
+fn differs(failure: &Failure) -> bool {
+    failure.expected != Some(failure.answer)
+}
+
+/// The numbers of the refusals are equal and their places differ.
+fn place(failure: &Failure) -> bool {
+    let number = failure.expected.map(|expected| expected >> 32);
+    differs(failure) && number == Some(failure.answer >> 32)
+}
+
+/// The answers are equal and a lent byte differs, or a property of the lent
+/// bytes does not hold.
+fn lent_byte(failure: &Failure) -> bool {
+    let spot = failure.byte.map(|byte| byte.spot);
+    let inside = matches!(spot, Some(Spot::Inside(_)));
+    failure.property.is_some() || (inside && !differs(failure))
+}
+
+/// After a refusal a lent byte differs.
+fn refused(failure: &Failure) -> bool {
+    failure.answer >> 32 != 0 && failure.byte.is_some()
+}
+
+/// A lent byte or the verdict differs, or a property does not hold.
+fn anything(failure: &Failure) -> bool {
+    answer(failure) || lent_byte(failure)
+}
+
+/// Where the first differing byte stands.
+fn at(failure: &Failure) -> Option<(&'static str, Spot)> {
+    failure.byte.map(|byte| (byte.buffer, byte.spot))
+}
+
+fn guard_before(failure: &Failure) -> bool {
+    at(failure) == Some(("state", Spot::Before(1)))
+}
+
+fn guard_behind(failure: &Failure) -> bool {
+    at(failure) == Some(("outputs", Spot::After(1)))
+}
+
+fn image(failure: &Failure) -> bool {
+    matches!(at(failure), Some(("image", _)))
+}
+
+#[rustfmt::skip]
+pub const STAND_INS: [StandIn; 27] = [
+    stand_in("accepts wrong counts", answers::ACCEPTS_WRONG_COUNTS,
+        &["operands", "damaged", "noise", "lists"], answer),
+    stand_in("answers with the next net", answers::NEXT_PLACE,
+        &["operands", "damaged", "noise", "lists"], place),
+    stand_in("counts a bad byte within its row", answers::PLACE_IN_ITS_ROW,
+        &["lent", "lists"], place),
+    stand_in("answers with the highest flow", answers::HIGHEST_FLOW,
+        &["good", "large", "lists", "two_runs", "steps"], answer),
+    stand_in("says clear of every run", answers::ALWAYS_CLEAR,
+        &["exhaustive", "good", "large", "extreme", "lists", "two_runs", "steps"], answer),
+    stand_in("turns every image back", answers::TURNS_ALL_BACK,
+        &["exhaustive", "operands", "good", "lent", "doubling", "pairing", "two_runs", "steps"],
+        answer),
+    stand_in("tries the net buffer first", order::BUFFER_FIRST, &["lent", "lists"], answer),
+    stand_in("takes 32 bits of k", order::NARROW_K, &["lent", "lists"], answer),
+    stand_in("tries k x I before k", order::PRODUCT_FIRST, &["lent", "lists"], answer),
+    stand_in("writes before the state", lent_bytes::WRITES_BEFORE,
+        &["exhaustive", "good", "large", "lent", "lists", "pairing", "two_runs", "steps"],
+        guard_before),
+    stand_in("writes behind the outputs", lent_bytes::WRITES_BEHIND,
+        &["exhaustive", "good", "lent", "lists", "pairing", "two_runs", "steps"], guard_behind),
+    stand_in("writes into the image", lent_bytes::WRITES_THE_IMAGE,
+        &["exhaustive", "operands", "good", "damaged", "noise", "pairing"], image),
+    stand_in("gets one net wrong", lent_bytes::ONE_NET_WRONG,
+        &["exhaustive", "good", "large", "lent", "lists", "pairing", "steps"], lent_byte),
+    stand_in("leaves the nets untouched", lent_bytes::NETS_UNTOUCHED,
+        &["exhaustive", "good", "large", "lists", "pairing", "two_runs", "steps"], lent_byte),
+    stand_in("marks every net", lent_bytes::ALL_MARKED,
+        &["exhaustive", "good", "large", "lists", "pairing", "steps"], lent_byte),
+    stand_in("refuses and writes", lent_bytes::REFUSED_WRITES,
+        &["lent", "lists", "two_runs"], refused),
+    stand_in("does not clock", cycles::NOT_CLOCKED,
+        &["exhaustive", "good", "large", "lists", "two_runs", "steps"], lent_byte),
+    stand_in("clocks one register after another", cycles::CLOCKED_IN_TURN,
+        &["exhaustive", "good", "large", "lists", "two_runs", "steps"], lent_byte),
+    stand_in("stops the outputs at the first flow", cycles::STOPS_AT_FLOW,
+        &["exhaustive", "good", "large", "lists", "two_runs", "steps"], lent_byte),
+    stand_in("copies cycle 0 onward", cycles::COPIES_CYCLE_0,
+        &["exhaustive", "good", "large", "lists", "two_runs", "steps"], lent_byte),
+    stand_in("runs and keeps the state", cycles::RUN_KEEPS_STATE,
+        &["exhaustive", "good", "large", "lists", "two_runs", "steps"], lent_byte),
+    stand_in("marks whenever a pin is marked", rules::ANY_PIN_MARKS,
+        &["exhaustive", "good", "large", "lists", "pairing"], anything),
+    stand_in("forgets the mark of a MUX's c", rules::CHOSEN_PIN_MARKS,
+        &["good", "large", "lists", "pairing", "two_runs"], anything),
+    stand_in("clears XOR of a net with itself", rules::OWN_XOR_IS_CLEAR,
+        &["exhaustive", "good", "large", "lists", "pairing"], anything),
+    stand_in("doubles with one wrong byte", doubling::ONE_BYTE_WRONG,
+        &["exhaustive", "good", "lists", "doubling", "pairing"], lent_byte),
+    stand_in("doubles to CONSTs", doubling::CONSTS_ONLY,
+        &["exhaustive", "good", "lists", "doubling", "pairing", "two_runs"], lent_byte),
+    stand_in("doubles into a longer buffer", doubling::TAKES_LONGER,
+        &["lent", "lists", "doubling"], answer),
+];

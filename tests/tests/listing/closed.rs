@@ -1,0 +1,58 @@
+//! Output that cannot be written: the program ends by itself, although its
+//! input goes on for ever.
+
+use std::fs::OpenOptions;
+use std::io::{Read, Write};
+use std::process::{ChildStdin, ChildStdout, Command, Stdio};
+use std::thread;
+
+use crate::counter::counter;
+use crate::folder::Folder;
+use crate::program::{command, command_without_signal, wait, SHORT};
+
+/// Gives rows until the program takes no more.
+fn give_for_ever(mut input: ChildStdin) {
+    while input.write_all(&[0; 1000]).is_ok() {}
+}
+
+/// Reads so many bytes of the lines and then closes the pipe.
+fn read_some(output: Option<ChildStdout>, length: usize) {
+    if let Some(mut output) = output {
+        let mut bytes = vec![0; length];
+        output.read_exact(&mut bytes).expect("the first lines");
+    }
+}
+
+/// Starts the program, reads so many bytes of its lines, closes the pipe, and
+/// waits for the end. What the program says about it and its exit status are of
+/// no account.
+fn ends_after(mut command: Command, length: usize) {
+    command.stderr(Stdio::null());
+    let mut child = command.spawn().expect("the program starts");
+    let input = child.stdin.take().expect("a pipe for the rows");
+    let output = child.stdout.take();
+    let writer = thread::spawn(move || give_for_ever(input));
+    let reader = thread::spawn(move || read_some(output, length));
+    wait(&mut child, SHORT);
+    reader.join().expect("the first lines are read");
+    writer.join().expect("the rows are given");
+}
+
+#[test]
+fn a_closed_pipe_ends_the_program() {
+    let folder = Folder::with(Some(&counter()));
+    for length in [0, 1, 100_000] {
+        ends_after(command(&folder), length);
+        ends_after(command_without_signal(&folder), length);
+    }
+}
+
+#[test]
+#[cfg(target_os = "linux")]
+fn a_full_device_ends_the_program() {
+    let folder = Folder::with(Some(&counter()));
+    let full = OpenOptions::new().write(true).open("/dev/full");
+    let mut command = command(&folder);
+    command.stdout(full.expect("the full device is opened"));
+    ends_after(command, 0);
+}

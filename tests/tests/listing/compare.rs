@@ -1,0 +1,54 @@
+//! The program's lines against the reference's.
+
+use std::io::Cursor;
+
+use crate::program::{list, Pieces};
+
+/// The lines that the reference prints. A missing file counts as 0 bytes.
+pub fn expected(image: Option<&[u8]>, rows: &[u8]) -> Vec<u8> {
+    let mut lines = Vec::new();
+    let image = image.unwrap_or(&[]);
+    reference::listing(image, Cursor::new(rows), &mut lines).expect("writing to memory");
+    lines
+}
+
+/// What is wrong with the program's lines or its exit status, if anything is.
+/// After a normal end the status is 0; after a refusal it is any, but no
+/// signal.
+pub fn difference(image: Option<&[u8]>, rows: &[u8], pieces: Pieces) -> Option<String> {
+    let expected = expected(image, rows);
+    let ended = list(image, rows, pieces);
+    if ended.lines != expected {
+        return Some(first_differing(&ended.lines, &expected));
+    }
+    let last = expected.split(|byte| *byte == b'\n').rev().nth(1);
+    let normal_end = last.map_or(false, |line| line.starts_with(b"end "));
+    match ended.status.code() {
+        Some(0) => None,
+        Some(_) if !normal_end => None,
+        _ => Some(format!("the program ended with {}", ended.status)),
+    }
+}
+
+/// Asks for the reference's lines.
+pub fn same(image: Option<&[u8]>, rows: &[u8], pieces: Pieces) {
+    if let Some(text) = difference(image, rows, pieces) {
+        panic!("{} row bytes in {pieces:?}: {text}", rows.len());
+    }
+}
+
+/// The first differing byte of two texts, with what stands around it.
+pub fn first_differing(are: &[u8], expected: &[u8]) -> String {
+    let equal = are.iter().zip(expected).take_while(|(a, b)| a == b).count();
+    let around = |text: &[u8]| {
+        let part = &text[equal.saturating_sub(40)..text.len().min(equal + 40)];
+        String::from_utf8_lossy(part).into_owned()
+    };
+    format!(
+        "the lines differ at byte {equal}: {} bytes with {:?}, expected {} with {:?}",
+        are.len(),
+        around(are),
+        expected.len(),
+        around(expected)
+    )
+}

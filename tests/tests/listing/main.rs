@@ -1,0 +1,10 @@
+//! The listing program against the reference's listing.
+
+mod closed;
+mod compare;
+mod counter;
+mod folder;
+mod long;
+mod planned;
+mod program;
+mod random;

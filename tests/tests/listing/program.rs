@@ -1,0 +1,129 @@
+//! Starting the listing program, giving it rows, and waiting for its end.
+
+use std::env;
+use std::io::{Read, Write};
+use std::path::{Path, PathBuf};
+use std::process::{Child, ChildStdin, Command, ExitStatus, Stdio};
+use std::thread::{self, sleep};
+use std::time::{Duration, Instant};
+
+use crate::folder::Folder;
+
+/// A program that has not ended after so long is taken to be stuck.
+pub const LONG: Duration = Duration::from_secs(60);
+
+/// The same for a program that has nothing to wait for.
+pub const SHORT: Duration = Duration::from_secs(20);
+
+/// The program that TRACKER_LISTING names, or else the one that is built in
+/// this repository.
+pub fn path() -> PathBuf {
+    let path = match env::var_os("TRACKER_LISTING") {
+        Some(path) => PathBuf::from(path),
+        None => Path::new(env!("CARGO_MANIFEST_DIR")).join("../target/bin/listing"),
+    };
+    match path.canonicalize() {
+        Ok(path) if path.is_file() => path,
+        _ => panic!(
+            "There is no file {}: run \"rt check listing\" first, or set TRACKER_LISTING to the program.",
+            path.display()
+        ),
+    }
+}
+
+/// The program in a folder, with pipes for its rows and its lines.
+pub fn command(folder: &Folder) -> Command {
+    prepared(Command::new(path()), folder)
+}
+
+/// The same, with the signal of a broken pipe ignored, so that the program sees
+/// the error itself.
+pub fn command_without_signal(folder: &Folder) -> Command {
+    let mut shell = Command::new("/bin/sh");
+    shell.arg("-c").arg("trap '' PIPE; exec \"$0\"").arg(path());
+    prepared(shell, folder)
+}
+
+fn prepared(mut command: Command, folder: &Folder) -> Command {
+    command
+        .current_dir(folder.path())
+        .stdin(Stdio::piped())
+        .stdout(Stdio::piped())
+        .stderr(Stdio::null());
+    command
+}
+
+/// Waits until the program has ended by itself. If it does not end in time, it
+/// is killed and the test fails.
+pub fn wait(child: &mut Child, limit: Duration) -> ExitStatus {
+    let start = Instant::now();
+    let mut pause = Duration::from_micros(100);
+    while start.elapsed() < limit {
+        if let Some(status) = child.try_wait().expect("the program is waited for") {
+            return status;
+        }
+        sleep(pause);
+        pause = (2 * pause).min(Duration::from_millis(10));
+    }
+    let _ = child.kill();
+    let _ = child.wait();
+    panic!("the program has not ended by itself");
+}
+
+/// How the rows are given: so many bytes at a time, and a pause after each
+/// piece.
+#[derive(Clone, Copy, Debug)]
+pub struct Pieces {
+    pub size: usize,
+    pub pause: Duration,
+}
+
+impl Pieces {
+    pub fn of(size: usize) -> Pieces {
+        Pieces {
+            size,
+            pause: Duration::ZERO,
+        }
+    }
+}
+
+/// Gives the rows and then ends the input. A program that refuses may end
+/// before it has read them, so an error of a write is of no account.
+fn give(mut input: ChildStdin, rows: &[u8], pieces: Pieces) {
+    for piece in rows.chunks(pieces.size) {
+        if input.write_all(piece).and_then(|()| input.flush()).is_err() {
+            return;
+        }
+        if !pieces.pause.is_zero() {
+            sleep(pieces.pause);
+        }
+    }
+}
+
+/// The program's lines and its exit status.
+pub struct Ended {
+    pub lines: Vec<u8>,
+    pub status: ExitStatus,
+}
+
+/// Runs the program with this net.bin, or none, and these rows.
+pub fn list(image: Option<&[u8]>, rows: &[u8], pieces: Pieces) -> Ended {
+    let folder = Folder::with(image);
+    let mut child = command(&folder).spawn().expect("the program starts");
+    let input = child.stdin.take().expect("a pipe for the rows");
+    let mut output = child.stdout.take().expect("a pipe for the lines");
+    thread::scope(|scope| {
+        let writer = scope.spawn(|| give(input, rows, pieces));
+        let reader = scope.spawn(move || {
+            let mut lines = Vec::new();
+            output.read_to_end(&mut lines).map(|_| lines)
+        });
+        let status = wait(&mut child, LONG);
+        writer.join().expect("the rows are given");
+        let lines = reader.join().expect("the lines are read");
+        Ended {
+            lines: lines.expect("the lines are read"),
+            status,
+        }
+    })
+}
