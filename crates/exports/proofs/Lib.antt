@@ -1,4 +1,4 @@
--- How large the numbers of answers are, and that they tell the answers.
+-- How large the numbers of answers are, and how they are read.
 pub mod Given
 pub mod Small
-pub mod Tells
+pub mod Readings

@@ -1,4 +1,4 @@
--- Every answer as one number. A refusal has its number above 2^32 and its place below; every other answer is below 2^32.
+-- Every answer as one number. It is a refusal exactly if the number is 2^32 or more.
 use Prim.Native.Nat.{ℕ, _+_, _*_, _^_}
 use mathlib.Core.Option.{Option, none, some}
 use Rattle.netlist.specs.declared.answer.Refusal.{Refusal}
@@ -19,7 +19,7 @@ abbrev pub verdictCode : Verdict → ℕ
 verdictCode clear = 0
 verdictCode (flow net) = net + 1
 
--- the first flow of a run: its cycle × 65,536 + the verdict
+-- the first flow of a run: its cycle × 65,536 + the number of its verdict
 abbrev pub firstFlowCode : FirstFlow → ℕ
 firstFlowCode f = f .cycle * 65536 + verdictCode (f .verdict)
 

@@ -1,3 +1,3 @@
--- The numbers that the calls of this library answer with, and what they tell.
+-- The numbers that the calls of this library answer with, and how they are read.
 pub mod Codes
-pub mod Tells
+pub mod Readings

@@ -5,7 +5,7 @@ use tracker::RunAnswer;
 use tracker::StepAnswer;
 use tracker::Verdict;
 ghost use mathlib.Core.Path.{_≡_};
-ghost use Prim.Native.Nat.{_+_, _*_, _^_, _<_};
+ghost use Prim.Native.Nat.{_^_, _<_};
 ghost use Rattle.netlist.specs.Check.{refusalIn};
 ghost use Rattle.tracker.specs.Answers.{verdictIn, stepAnswerIn, runAnswerIn};
 ghost use Rattle.exports.specs.Codes.{refusalCode, outcomeCode, verdictCode, firstFlowCode, answerCode};

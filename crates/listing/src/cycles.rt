@@ -1,10 +1,12 @@
 // The cycles of a listing: a step for each row, and a line for each step.
-use crate::input::read_rows;
+use crate::input::Filled;
+use crate::input::fill;
 use crate::output::Progress;
 use crate::output::print_cycle;
 use crate::output::print_end;
 use crate::output::print_last;
 use crate::output::print_refusal;
+use libc::STDIN_FILENO;
 use netlist::Outcome;
 use netlist::Refusal;
 use netlist::Sizes;
@@ -20,7 +22,7 @@ ghost use lib.ListN.{length};
 ghost use Rattle.netlist.specs.Image.{sizesOf};
 ghost use Rattle.netlist.specs.Check.{checkRefusal};
 
-// A proved loop has to end, and nothing says that the input does. So the reads are counted down from a number that no listing uses up, and the
+// A proved loop has to end, and nothing says that the input does. So the reads are counted, up to a number that no listing reaches, and the
 // number of cycles stays below 2^64.
 const MOST_READS: u64 = 140737488355328;
 
@@ -80,6 +82,18 @@ fn take_rows(
     p
 }
 
+// How many of the bytes that were read are taken: all, or whole rows alone where a read failed, since the rest of a row may be missing then.
+fn rows_of(got: Filled, inputs: usize) -> usize
+    requires { ⌜ 0 < inputs ⌝ }
+    ensures { λ r. ⌜ r ≤ got .bytes ⌝ }
+{
+    if got.failed {
+        got.bytes / inputs * inputs
+    } else {
+        got.bytes
+    }
+}
+
 // Reads as many rows as the buffer for them holds, fewer at the end of the input, and takes them.
 fn take_some(
     image: &[u8],
@@ -93,10 +107,10 @@ fn take_some(
     requires { ⌜ (p .used ≤ length (now text)) × (p .cycles + length (now rows) < 2 ^ 64) × (0 < inputs) ⌝ }
     ensures { λ r. ⌜ (r .used ≤ length (now (text .exit))) × (r .cycles ≤ p .cycles + length (now (rows .entry))) ⌝ }
 {
-    let got = read_rows(rows);
-    let n = got.bytes;
+    let got = fill(STDIN_FILENO, rows);
+    let n = rows_of(got, inputs);
     let q = take_rows(image, inputs, state, &rows[..n], outputs, p, text);
-    if q.open & (n < rows.len()) {
+    if q.open & (got.bytes < rows.len()) {
         return print_last(text, q, got.failed);
     }
     q

@@ -1,5 +1,4 @@
 // Reading: the image, and the rows. Both may come in pieces.
-use libc::STDIN_FILENO;
 ghost use Prim.Native.Nat.{_+_, _≤_};
 ghost use lib.ListN.{length};
 ghost use Rattle.io.specs.Counts.{Counts};
@@ -13,7 +12,38 @@ pub struct Filled {
     pub failed: bool,
 }
 
-// The first bytes of net.bin. A file that is missing or cannot be opened counts as 0 bytes; the reason is said on standard error.
+// One read behind the bytes that are there: how many more came.
+fn read_more(fd: i32, buffer: &mut [u8], from: usize) -> Filled
+    requires { ⌜ from ≤ length (now buffer) ⌝ }
+    ensures { λ r. ⌜ from + r .bytes ≤ length (now (buffer .exit)) ⌝ }
+{
+    let got = libc::read(fd, &mut buffer[from..]);
+    let bytes = io::count(got, &buffer[from..]);
+    Filled {
+        bytes,
+        failed: got < 0,
+    }
+}
+
+// Reads until the buffer is full, the input ends or a read fails.
+pub fn fill(fd: i32, buffer: &mut [u8]) -> Filled
+    ensures { λ r. ⌜ Counts (r .bytes) (now (buffer .exit)) ⌝ }
+{
+    let mut bytes: usize = 0;
+    let mut failed = false;
+    while bytes < buffer.len() {
+        let more = read_more(fd, buffer, bytes);
+        if more.bytes == 0 {
+            failed = more.failed;
+            break;
+        }
+        bytes += more.bytes;
+    }
+    Filled { bytes, failed }
+}
+
+// The first bytes of net.bin. A file that is missing or cannot be opened counts as 0 bytes, and a read that fails as the end of the file; the
+// reason is said on standard error.
 pub fn read_image(buffer: &mut [u8; MOST_IMAGE]) -> usize
     ensures { λ r. ⌜ Counts r (now (buffer .exit)) ⌝ }
 {
@@ -22,37 +52,10 @@ pub fn read_image(buffer: &mut [u8; MOST_IMAGE]) -> usize
         os::fail(b"net.bin");
         return 0;
     }
-    let n = io::read_full(fd, buffer);
+    let got = fill(fd, buffer);
+    if got.failed {
+        os::fail(b"net.bin");
+    }
     libc::close(fd);
-    n
-}
-
-// One read behind the bytes that are there: how many more came.
-fn read_more(buffer: &mut [u8], from: usize) -> Filled
-    requires { ⌜ from ≤ length (now buffer) ⌝ }
-    ensures { λ r. ⌜ from + r .bytes ≤ length (now (buffer .exit)) ⌝ }
-{
-    let got = libc::read(STDIN_FILENO, &mut buffer[from..]);
-    let bytes = io::count(got, &buffer[from..]);
-    Filled {
-        bytes,
-        failed: got < 0,
-    }
-}
-
-// Reads rows until the buffer is full, the input ends or a read fails.
-pub fn read_rows(buffer: &mut [u8]) -> Filled
-    ensures { λ r. ⌜ r .bytes ≤ length (now (buffer .exit)) ⌝ }
-{
-    let mut bytes: usize = 0;
-    let mut failed = false;
-    while bytes < buffer.len() {
-        let more = read_more(buffer, bytes);
-        if more.bytes == 0 {
-            failed = more.failed;
-            break;
-        }
-        bytes += more.bytes;
-    }
-    Filled { bytes, failed }
+    got.bytes
 }

@@ -42,5 +42,5 @@ pub refused-length : (r : Refusal) → length (decimal (r .number)) + length (de
 unfolding refusedLine
 refused-length r =
     let word = numbered refusedWord (r .number) in
-    let place = numbered [] (r .place) in
+    let place = (space ++ decimal (r .place)) in
     omega (arith, length-append word place, length-append (word ++ place) newline)

@@ -65,9 +65,9 @@ endLine cycles = numbered endWord cycles ++ newline
 
 -- a refusal prints refused, number, place
 unfoldable pub refusedLine : Refusal → List ℕ
-refusedLine r = numbered refusedWord (r .number) ++ numbered [] (r .place) ++ newline
+refusedLine r = numbered refusedWord (r .number) ++ (space ++ decimal (r .place)) ++ newline
 
--- a lent buffer in which a line was put, and the place behind the line
+-- a lent buffer, and the place where the next line goes
 pub record Put : Type 0 where
   pub buffer : List ℕ
   pub place : ℕ

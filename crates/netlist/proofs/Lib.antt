@@ -5,3 +5,4 @@ pub mod Nets
 pub mod Checked
 pub mod Encoding
 pub mod Written
+pub mod Below

@@ -3,3 +3,4 @@ pub mod Operands
 pub mod Image
 pub mod Check
 pub mod Writing
+pub mod Limits

@@ -4,6 +4,7 @@ use crate::answer::refused;
 use crate::image::Sizes;
 use crate::image::net_at;
 use crate::image::sizes_of;
+use crate::limits::limit_places;
 use crate::net::check_net;
 use crate::net::one_if;
 use gates::INPUT;
@@ -23,13 +24,14 @@ fn check_nets(s: &[u8], z: Sizes) -> Outcome
         ≡ (netsRefusal (z .nets) 0 (netsOf (now (s .entry))) then refuse (wrongCounts (now (s .entry))) 8 0) ⌝ }
 {
     let n = z.nets;
+    let places = limit_places();
     let mut inputs: usize = 0;
     let mut registers: usize = 0;
     let mut outputs: usize = 0;
     let mut i: usize = 0;
     while i < n {
         let x = net_at(s, n, i);
-        let o = check_net(n, i, x);
+        let o = check_net(&places, n, i, x);
         if let Outcome::Refused(r) = o {
             return Outcome::Refused(r);
         }

@@ -2,6 +2,7 @@
 mod answer;
 mod checking;
 mod image;
+mod limits;
 mod net;
 mod writing;
 

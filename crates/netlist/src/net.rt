@@ -2,6 +2,7 @@
 use crate::answer::Outcome;
 use crate::answer::refused;
 use crate::image::Net;
+use crate::limits::within;
 use gates::AND;
 use gates::CONST;
 use gates::INPUT;
@@ -13,6 +14,7 @@ ghost use mathlib.Core.Path.{_≡_};
 ghost use mathlib.Core.Bool.{cond};
 ghost use Prim.Native.Nat.{_≤_};
 ghost use Rattle.netlist.specs.Check.{refusalIn, badPin, badValue, badUnlisted, netRefusal};
+ghost use Rattle.netlist.specs.Limits.{limitPlaces};
 
 // 5: a REG pin that is not below N, or another pin that is not below its net.
 fn bad_pin(n: usize, i: usize, x: Net) -> bool
@@ -41,8 +43,8 @@ fn bad_unlisted(x: Net) -> bool
     !lists_a & (x.a != 0) | !lists_b & (x.b != 0) | !lists_c & (x.c != 0)
 }
 
-// Refusals 4 to 7 at net i of n.
-pub fn check_net(n: usize, i: usize, x: Net) -> Outcome
+// Refusals 4 to 7 at net i of n, by the conditions themselves.
+fn refuse_net(n: usize, i: usize, x: Net) -> Outcome
     ensures { λ r. ⌜ refusalIn r ≡ netRefusal n i x ⌝ }
 {
     let pin = bad_pin(n, i, x);
@@ -61,6 +63,19 @@ pub fn check_net(n: usize, i: usize, x: Net) -> Outcome
         return refused(7, i);
     }
     Outcome::Done
+}
+
+// Refusals 4 to 7 at net i of n. Most nets pass by the limits of their operands alone.
+pub fn check_net(places: &[u8; 27], n: usize, i: usize, x: Net) -> Outcome
+    requires { ⌜ now places ≡ limitPlaces ⌝ }
+    ensures { λ r. ⌜ refusalIn r ≡ netRefusal n i x ⌝ }
+{
+    if x.kind < 9 {
+        if within(places, n, i, x) {
+            return Outcome::Done;
+        }
+    }
+    refuse_net(n, i, x)
 }
 
 // 1 where the flag is set, and 0 where not.

@@ -62,38 +62,42 @@ ends s z {inputs} {registers} {outputs} h l =
     rw (l .refusal, a, b, c, h)
 
 abbrev Inv-loop : tie.InvT-loop
-Inv-loop s z n inputs₀ registers₀ outputs₀ i₀ inputs registers outputs i =
+Inv-loop s z n places inputs₀ registers₀ outputs₀ i₀ inputs registers outputs i =
     (i ≤ n) × (inputs ≤ i) × (registers ≤ i) × (outputs ≤ i) × Left n (netsOf s) (netsLeft s n i) inputs registers outputs i
 
 abbrev μ-loop : tie.MeasureT-loop
-μ-loop s z n inputs₀ registers₀ outputs₀ i₀ inputs registers outputs i = n - i
+μ-loop s z n places inputs₀ registers₀ outputs₀ i₀ inputs registers outputs i = n - i
 
 loop-holds : tie.Need-loop-holds Inv-loop μ-loop
 loop-holds c =
-    let args = c .before .args in (
+    let start = c .before .before in
+    let args = start .args in (
       omega arith,
       omega arith,
       omega arith,
       omega arith,
-      rw (nets-left (args .s .now) (args .z .nets) (ap (λ (z : Sizes). z .nets) (c .before .pre .0))) (begins (args .z .nets) (netsOf (args .s .now))),
+      rw (nets-left (args .s .now) (args .z .nets) (ap (λ (z : Sizes). z .nets) (start .pre .0))) (begins (args .z .nets) (netsOf (args .s .now))),
     )
 
 -- at the head of a turn, the net is the first of those that are left
 this-net : (c : tie.After-net-at Inv-loop μ-loop)
     → let at = c .before .before in
-    let args = at .before .before .args in
+    let args = at .before .before .before .args in
     Left (args .z .nets) (netsOf (args .s .now)) (c .net-at .result ∷ netsLeft (args .s .now) (args .z .nets) (at .loop .i + 1))
     (at .loop .inputs) (at .loop .registers) (at .loop .outputs) (at .loop .i)
 this-net c =
     let at = c .before .before in
-    let args = at .before .before .args in
+    let args = at .before .before .before .args in
     rw (c .net-at .ensures, ← nets-next (args .s .now) (args .z .nets) (at .loop .i) (c .before .loop-test .taken)) (at .loop .inv .4)
+
+check-net-requires : tie.Need-check-net-requires Inv-loop μ-loop
+check-net-requires c κs = c .before .before .before .before .limit-places .ensures
 
 returns : tie.Need-returns Inv-loop μ-loop
 returns c =
     let known = c .before in
     let checked = known .before .before in
-    stops (this-net (checked .before)) _ _ (sym (checked .check-net .ensures) ∙ ap refusalIn (known .o .given .1))
+    stops (this-net (checked .before .before)) _ _ (sym (checked .check-net .ensures) ∙ ap refusalIn (known .o .given .1))
 
 loop-again : tie.Need-loop-again Inv-loop μ-loop
 loop-again c =
@@ -105,17 +109,17 @@ loop-again c =
     let k = inputs .one-if .ensures in
     let m = registers .one-if2 .ensures in
     let o = c .one-if3 .ensures in
-    (omega arith, omega arith, omega arith, omega arith, goes-on (this-net (checked .before)) _ _ _ passes (k .0) (m .0) (o .0))
+    (omega arith, omega arith, omega arith, omega arith, goes-on (this-net (checked .before .before)) _ _ _ passes (k .0) (m .0) (o .0))
 
 -- after the last turn, all that is left is to compare the counts
 compares : (c : tie.After-loop Inv-loop μ-loop)
     → let at = c .before .loop in
-    let args = c .before .before .before .args in
+    let args = c .before .before .before .before .args in
     (netsRefusal (args .z .nets) 0 (netsOf (args .s .now)) then refuse (wrongCounts (args .s .now)) 8 0)
     ≡ refuse (differ (args .z) (at .inputs) (at .registers) (at .outputs)) 8 0
 compares c =
     let at = c .before .loop in
-    let start = c .before .before .before in
+    let start = c .before .before .before .before in
     let s = start .args .s .now in
     let n = start .args .z .nets in
     let l : Left n (netsOf s) [] (at .inputs) (at .registers) (at .outputs) (at .i) = rw (nets-done s n (at .i) (omega arith)) at (at .inv .4) in
@@ -126,7 +130,7 @@ counts-differ : (c : tie.After-struct-known6 Inv-loop μ-loop) → Bool
 counts-differ c =
     let looped = c .before .before .before in
     let at = looped .before .loop in
-    differ (looped .before .before .before .args .z) (at .inputs) (at .registers) (at .outputs)
+    differ (looped .before .before .before .before .args .z) (at .inputs) (at .registers) (at .outputs)
 
 returns-2 : tie.Need-returns-2 Inv-loop μ-loop
 unfolding counts-differ
@@ -148,9 +152,10 @@ check-nets-spec =
     (tie.spec
     Inv-loop
     μ-loop
+    (λ c κs. search needs)
     loop-holds
     (λ c κs. search needs)
-    (λ c κs. search needs)
+    check-net-requires
     (λ c. search needs)
     returns
     (λ c. search needs)

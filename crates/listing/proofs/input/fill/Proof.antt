@@ -1,17 +1,24 @@
--- `listing::input::read_rows` meets its contract: the bytes that came are within the buffer; each turn reads at least one, so the loop ends.
-use Prim.Native.Nat.{_+_, _-_, _≤_}
+-- `listing::input::fill` meets its contract: the bytes that came are within the buffer; each turn reads at least one, so the loop ends.
+use Prim.Native.Nat.{ℕ, _+_, _-_, _≤_}
 use native.Mathlib.Omega.{arith}
-use mathlib.Core.Path.{_≡_, refl, _∙_}
+use mathlib.Core.Path.{_≡_, refl, sym, _∙_}
+use mathlib.Core.List.{List}
 use lib.ListN.{length}
+use lib.Seq.{length-take-le}
 use borrow.Author.Needs.{needs}
-use Rattle.listing.proofs.input.read_rows.Statement.{statement}
-use Rattle.listing.proofs.input.read_rows.Tie as tie
+use Rattle.io.specs.Counts.{Counts}
+use Rattle.listing.proofs.input.fill.Statement.{statement}
+use Rattle.listing.proofs.input.fill.Tie as tie
 
 abbrev Inv-loop : tie.InvT-loop
-Inv-loop buffer₀ bytes₀ failed₀ buffer bytes failed = (length buffer ≡ length buffer₀) × (bytes ≤ length buffer₀)
+Inv-loop fd buffer₀ bytes₀ failed₀ buffer bytes failed = (length buffer ≡ length buffer₀) × (bytes ≤ length buffer₀)
 
 abbrev μ-loop : tie.MeasureT-loop
-μ-loop buffer₀ bytes₀ failed₀ buffer bytes failed = length buffer₀ - bytes
+μ-loop fd buffer₀ bytes₀ failed₀ buffer bytes failed = length buffer₀ - bytes
+
+-- a number of bytes at the start of a list
+counts : (n : ℕ) (xs : List ℕ) → n ≤ length xs → Counts n xs
+counts n xs h = (h, sym (length-take-le n xs h))
 
 loop-holds : tie.Need-loop-holds Inv-loop μ-loop
 loop-holds c = (refl, omega arith)
@@ -20,8 +27,8 @@ read-more-requires : tie.Need-read-more-requires Inv-loop μ-loop
 read-more-requires c κs = let inv = c .before .before .loop .inv in omega (arith, inv .0, inv .1)
 
 -- the length stays, and what came is within it
-long : (c : tie.After-read-more Inv-loop μ-loop) → length (c .read-more .last .0) ≡ length (c .before .before .before .before .before .args .buffer .now)
-long c = c .read-more .kept .0 ∙ c .before .before .before .loop .inv .0
+long : (c : tie.After-read-more Inv-loop μ-loop) → length (c .read-more .last .1 .0) ≡ length (c .before .before .before .before .before .args .buffer .now)
+long c = c .read-more .kept .1 .0 ∙ c .before .before .before .loop .inv .0
 
 within : (c : tie.After-read-more Inv-loop μ-loop)
     → c .before .before .before .loop .bytes + c .read-more .result .bytes ≤ length (c .before .before .before .before .before .args .buffer .now)
@@ -45,7 +52,7 @@ same-length : tie.Need-same-length Inv-loop μ-loop
 same-length c = c .before .loop .inv .0
 
 returns : tie.Need-returns Inv-loop μ-loop
-returns c = let inv = c .before .loop .inv in omega (arith, inv .0, inv .1)
+returns c = let inv = c .before .loop .inv in counts _ _ (omega (arith, inv .0, inv .1))
 
 same-length-2 : tie.Need-same-length-2 Inv-loop μ-loop
 same-length-2 c = long (c .before .before .before .before)
@@ -53,10 +60,10 @@ same-length-2 c = long (c .before .before .before .before)
 returns-2 : tie.Need-returns-2 Inv-loop μ-loop
 returns-2 c =
     let more = c .before .before .before .before in
-    omega (arith, long more, more .before .before .before .loop .inv .1)
+    counts _ _ (omega (arith, long more, more .before .before .before .loop .inv .1))
 
-pub read-rows-spec : {M : Type 1} → statement M
-read-rows-spec =
+pub fill-spec : {M : Type 1} → statement M
+fill-spec =
     tie.close
     (tie.spec
     Inv-loop

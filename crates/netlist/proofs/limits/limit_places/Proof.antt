@@ -1,0 +1,12 @@
+-- `netlist::limits::limit_places` meets its contract: the table is the definition's list.
+use mathlib.Core.Path.{refl}
+use Rattle.netlist.specs.Limits.{limitPlaces}
+use Rattle.netlist.proofs.limits.limit_places.Statement.{statement}
+use Rattle.netlist.proofs.limits.limit_places.Tie as tie
+
+returns : tie.Need-returns
+unfolding limitPlaces
+returns c = refl
+
+pub limit-places-spec : {M : Type 1} → statement M
+limit-places-spec = tie.close (tie.spec returns)
