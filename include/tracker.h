@@ -1,7 +1,16 @@
 /* The gate-level trust tracker, for C.
  *
- * An image holds a netlist (document 01, "The image"): four u16 sizes, low byte first, namely N nets, I inputs, R registers and O outputs; then N kind
- * bytes; then N entries of three u16 operands. Its length is 8 + 7 x N. A byte of a pin, a register or a net is value + 2 x mark; mark 1 is untrusted.
+ * An image holds a netlist: four u16 sizes, low byte first, namely N nets, I inputs, R registers and O outputs; then N kind bytes; then N entries of
+ * three u16 operands a, b and c. Its length is 8 + 7 x N. A byte of a pin, a register or a net is value + 2 x mark; mark 1 is untrusted.
+ *
+ *   kind                operands; an operand that is not listed is 0                                  nets in the doubled netlist
+ *   0 CONST             a is 0 or 1                                                                   2
+ *   1 INPUT             none                                                                          2
+ *   2 REG               a: the net taken at the clock, below N; b: start 0, 1, or 2 for none given    2
+ *   3 NOT               a: a net below its own                                                        2
+ *   4 AND, 5 OR, 6 XOR  a and b: nets below its own                                                   6, 8, 2
+ *   7 MUX               nets below its own: gives a if c is 0, b if c is 1                            7
+ *   8 OUT               a: a net below its own; b: 0 free, 1 protected                                2
  *
  * Every call takes byte buffers as a pointer and a length, and each length must be exactly the one that the call asks for: a longer buffer is refused
  * too. A call reads `image`, `row` and `rows`, and may write `state`, `nets`, `outputs` and `buffer`. It keeps no pointer, takes no memory but the

@@ -1,7 +1,22 @@
 //! Before anything is timed, every peer has to give what the library gives.
 
 use crate::cases::Bytes;
+use crate::generate::{image, Mix};
 use crate::peers::{Peer, PEERS};
+
+/// How many small netlists are tried.
+const SMALL: usize = 600;
+
+/// Compares the peers with the library on small netlists, with few cycles.
+pub fn assert_agree_on_small(peers: &[Peer]) {
+    for seed in 0..SMALL {
+        let mix = [Mix::Equal, Mix::Gates, Mix::Live][seed % 3];
+        let (n, k) = (1 + seed % 97, seed % 11);
+        let image = image(mix, n, seed as u64, seed % 2 == 0);
+        let bytes = Bytes::with_image(image, k, seed as u64);
+        assert_agree(&bytes, k, peers);
+    }
+}
 
 /// Runs the library and the peers for k cycles and compares the answer, all
 /// outputs and the state left. Buffers start with other bytes on each side, so

@@ -19,11 +19,7 @@ pub struct Case {
 }
 
 const fn case(mix: Mix, nets: usize, protect: bool) -> Case {
-    Case {
-        mix,
-        nets,
-        protect,
-    }
+    Case { mix, nets, protect }
 }
 
 /// The case of the headline.
@@ -45,6 +41,7 @@ impl Case {
         let mix = match self.mix {
             Mix::Equal => "kinds equally likely",
             Mix::Gates => "mostly gates",
+            Mix::Live => "mostly gates, all read",
         };
         let flow = match self.protect {
             true => "flow early",

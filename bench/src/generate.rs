@@ -10,6 +10,9 @@ pub enum Mix {
     Equal,
     /// 85 nets in 100 are gates and OUTs.
     Gates,
+    /// As Gates, but without CONSTs beyond the first nets, and almost every net
+    /// is read: pin a of a gate or OUT is the oldest net that nothing reads yet.
+    Live,
 }
 
 /// The nets at the start that are no gates, so that pins have something to name.
@@ -26,8 +29,12 @@ const MARKED: usize = 25;
 pub fn image(mix: Mix, n: usize, seed: u64, protect: bool) -> Vec<u8> {
     let mut random = Random::new(seed);
     let mut nets = Vec::with_capacity(n);
+    let mut unread = Unread::new(n);
     for i in 0..n {
         let mut net = random_net(&mut random, mix, n, i);
+        if mix == Mix::Live {
+            unread.take_pin(&mut net, i);
+        }
         if net.kind == OUT && !protect {
             net.b = 0;
         }
@@ -62,8 +69,41 @@ fn random_kind(random: &mut Random, mix: Mix, i: usize) -> u8 {
     }
     match mix {
         Mix::Equal => random.below(9) as u8,
-        Mix::Gates if random.chance(85) => NOT + random.below(6) as u8,
+        _ if random.chance(85) => NOT + random.below(6) as u8,
         Mix::Gates => random.below(3) as u8,
+        Mix::Live => INPUT + random.below(2) as u8,
+    }
+}
+
+/// The nets that nothing reads yet.
+struct Unread {
+    read: Vec<bool>,
+    oldest: usize,
+}
+
+impl Unread {
+    fn new(n: usize) -> Unread {
+        Unread {
+            read: vec![false; n],
+            oldest: 0,
+        }
+    }
+
+    /// Pin a of a gate or OUT becomes the oldest net below i that is unread.
+    fn take_pin(&mut self, net: &mut Net, i: usize) {
+        if net.kind < NOT {
+            return;
+        }
+        while self.oldest < i && self.read[self.oldest] {
+            self.oldest += 1;
+        }
+        if self.oldest < i {
+            net.a = self.oldest as u16;
+        }
+        for pin in [net.a, net.b, net.c] {
+            self.read[usize::from(pin)] = true;
+        }
+        self.read[i] = net.kind == OUT;
     }
 }
 

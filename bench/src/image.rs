@@ -36,9 +36,10 @@ pub struct Net {
 }
 
 /// The u16 at a place.
-#[inline]
+#[inline(always)]
 pub fn u16_at(image: &[u8], place: usize) -> u16 {
-    u16::from_le_bytes([image[place], image[place + 1]])
+    let bytes = image[place..place + 2].try_into();
+    u16::from_le_bytes(bytes.expect("two bytes"))
 }
 
 /// The four sizes of an image that has at least 8 bytes.
@@ -52,15 +53,20 @@ pub fn sizes_of(image: &[u8]) -> Sizes {
     }
 }
 
+/// Where operand k of net i stands in an image of n nets.
+#[inline(always)]
+pub fn operand_place(n: usize, i: usize, k: usize) -> usize {
+    HEAD + n + 6 * i + 2 * k
+}
+
 /// Net i of an image of n nets.
-#[inline]
+#[inline(always)]
 pub fn net_at(image: &[u8], n: usize, i: usize) -> Net {
-    let place = HEAD + n + 6 * i;
     Net {
         kind: image[HEAD + i],
-        a: u16_at(image, place),
-        b: u16_at(image, place + 2),
-        c: u16_at(image, place + 4),
+        a: u16_at(image, operand_place(n, i, 0)),
+        b: u16_at(image, operand_place(n, i, 1)),
+        c: u16_at(image, operand_place(n, i, 2)),
     }
 }
 

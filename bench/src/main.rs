@@ -1,38 +1,105 @@
+//! Measurements of the tracker's static library.
+//!
+//! Without arguments: all tables. `forms`: a table of the forms that the best
+//! peer was chosen from. `count CASE PEER CYCLES`: one run, for valgrind.
+//! `netlist MIX NETS SEED CYCLES FOLDER`: files for the hardware tools.
+
+mod agree;
+mod aligned;
+mod call;
+mod cases;
 mod check;
+mod count;
+mod decoded;
 mod forms;
 mod generate;
+mod hardware;
 mod image;
 mod library;
+mod linear;
+mod peers;
 mod plain;
 mod random;
-use std::time::Instant;
+mod rounds;
+mod running;
+mod verilog;
+
+use std::env;
+use std::path::Path;
+use std::process;
+
+use agree::assert_agree_on_small;
+use cases::CASES;
+use forms::FORMS;
+use generate::Mix;
+use hardware::write_files;
+use peers::PEERS;
+
+const USAGE: &str =
+    "usage: bench [forms | count CASE PEER CYCLES | netlist MIX NETS SEED CYCLES FOLDER]";
+
+/// How often each peer is timed on each case.
+const ROUNDS: usize = 11;
+
 fn main() {
-    let args: Vec<String> = std::env::args().collect();
-    let k: usize = args.get(1).map(|s| s.parse().unwrap()).unwrap_or(1024);
-    for (mix, n, protect) in [(generate::Mix::Equal, 1100, true), (generate::Mix::Equal, 8192, true), (generate::Mix::Equal, 8192, false), (generate::Mix::Gates, 8192, true)] {
-        let im = generate::image(mix, n, 1, protect);
-        let z = image::sizes_of(&im);
-        let rows = generate::rows(k * z.inputs, 2);
-        let mut st0 = vec![0; z.registers];
-        assert_eq!(library::power_up(&im, &mut st0), 0);
-        let mut st = st0.clone();
-        let mut out0 = vec![9; k * z.outputs];
-        let a0 = library::run(&im, k, &mut st, &rows, &mut out0);
-        let go = |name: &str, f: &dyn Fn(&[u8], usize, &mut [u8], &[u8], &mut [u8]) -> u64| {
-            let mut out = vec![9; k * z.outputs];
-            let mut best = f64::MAX;
-            for _ in 0..7 {
-                let mut s = st0.clone();
-                let t = Instant::now();
-                let a = f(&im, k, &mut s, &rows, &mut out);
-                let e = t.elapsed().as_secs_f64();
-                assert!(a == a0 && s == st && out == out0, "{name}");
-                if e < best { best = e }
-            }
-            println!("{n} {protect} {name:12} {:8.2} M/s {:6.2} ns", (n * k) as f64 / best / 1e6, best * 1e9 / (n * k) as f64);
-        };
-        go("library", &library::run);
-        go("plain", &plain::run);
-        for f in forms::FORMS { go(f.name, &|a, b, c, d, e| f.run(a, b, c, d, e)); }
+    let arguments: Vec<String> = env::args().skip(1).collect();
+    let words: Vec<&str> = arguments.iter().map(String::as_str).collect();
+    match words[..] {
+        [] => all(),
+        ["forms"] => forms(),
+        ["count", case, peer, k] => count::one_run(number(case), peer, number(k)),
+        ["netlist", mix, nets, seed, k, folder] => {
+            let (nets, seed, k) = (number(nets), number(seed), number(k));
+            let written = write_files(named_mix(mix), nets, seed as u64, k, Path::new(folder));
+            written.unwrap_or_else(|error| fail(&error.to_string()));
+        }
+        _ => fail(USAGE),
     }
+}
+
+/// All tables. Times are taken only where all peers give what the library gives.
+fn all() {
+    assert_agree_on_small(&PEERS);
+    println!("{ROUNDS} alternating rounds; \"best\" is the best form that reads the image each");
+    println!("cycle; \"decoded\" decodes it first and stands outside that comparison.");
+    for case in CASES {
+        running::print_times(case, &PEERS, ROUNDS);
+    }
+    running::print_instructions(&PEERS);
+    linear::print_checking();
+    linear::print_doubling();
+}
+
+/// The library and the forms that the best peer was chosen from.
+fn forms() {
+    let mut peers = vec![PEERS[0]];
+    peers.extend(FORMS);
+    assert_agree_on_small(&peers);
+    for case in CASES {
+        running::print_times(case, &peers, ROUNDS);
+    }
+    running::print_instructions(&peers);
+}
+
+/// A mix among the arguments.
+fn named_mix(word: &str) -> Mix {
+    match word {
+        "equal" => Mix::Equal,
+        "gates" => Mix::Gates,
+        "live" => Mix::Live,
+        _ => fail("the mix is equal, gates or live"),
+    }
+}
+
+/// A number among the arguments.
+fn number(word: &str) -> usize {
+    match word.parse() {
+        Ok(number) => number,
+        Err(_) => fail("a number was expected"),
+    }
+}
+
+fn fail(message: &str) -> ! {
+    eprintln!("{message}");
+    process::exit(2);
 }

@@ -3,7 +3,8 @@
 //! marks by the formulas.
 
 use crate::call::{Call, First};
-use crate::image::{net_at, Sizes, AND, CONST, HEAD, INPUT, NOT, OR, OUT, REG, XOR};
+use crate::image::{net_at, operand_place, u16_at, Sizes};
+use crate::image::{AND, CONST, HEAD, INPUT, NOT, OR, OUT, REG, XOR};
 
 /// The k cycles of an accepted run.
 pub fn cycles(mut call: Call, z: Sizes) -> First {
@@ -73,7 +74,8 @@ fn mux((a, ta): (bool, bool), (b, tb): (bool, bool), (c, tc): (bool, bool)) -> (
 /// The lowest protected OUT with mark 1.
 pub fn verdict(image: &[u8], nets: &[u8]) -> Option<usize> {
     let n = nets.len();
-    (0..n).find(|i| image[HEAD + i] == OUT && net_at(image, n, *i).b == 1 && nets[*i] >= 2)
+    let is_protected = |i: usize| u16_at(image, operand_place(n, i, 1)) == 1;
+    (0..n).find(|i| image[HEAD + i] == OUT && is_protected(*i) && nets[*i] >= 2)
 }
 
 /// The bytes of the OUTs, in net order.
@@ -91,7 +93,8 @@ pub fn clock(image: &[u8], nets: &[u8], state: &mut [u8]) {
     let mut j = 0;
     for i in 0..n {
         if image[HEAD + i] == REG {
-            state[j] = nets[usize::from(net_at(image, n, i).a)];
+            let pin = u16_at(image, operand_place(n, i, 0));
+            state[j] = nets[usize::from(pin)];
             j += 1;
         }
     }

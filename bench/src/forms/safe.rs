@@ -7,8 +7,8 @@
 //! used of them, so that the compiler sees that no index can reach their end.
 
 use super::table::WIDE;
-use super::Lent;
-use crate::image::{HEAD, INPUT, MOST_NETS, OUT};
+use crate::call::{Call, First};
+use crate::image::{Sizes, HEAD, MOST_NETS, OUT};
 use crate::plain;
 
 /// The places of the buffer's parts. The nets of even cycles stand at 0.
@@ -21,46 +21,58 @@ type Buffer = [u8; LENGTH];
 type Outputs = [u8; 65536];
 
 /// The k cycles of an accepted run.
-pub fn cycles(lent: Lent) -> Option<(usize, usize)> {
-    let z = lent.sizes;
+pub fn cycles(mut call: Call, z: Sizes) -> First {
+    let (image, n) = (call.image, z.nets);
     let mut bytes: Buffer = [0; LENGTH];
     let mut out: Outputs = [0; 65536];
     let mut first = None;
     bytes[CONSTANTS + 1] = 1;
-    for cycle in 0..lent.k {
-        let row = &lent.rows[cycle * z.inputs..][..z.inputs];
-        let slot = &mut lent.outputs[cycle * z.outputs..][..z.outputs];
-        bytes[ROW..ROW + z.inputs].copy_from_slice(row);
+    for cycle in 0..call.k {
+        bytes[ROW..ROW + z.inputs].copy_from_slice(call.row(z, cycle));
         let now = cycle % 2 * ODD;
-        if cycle == 0 {
-            plain::work_out(lent.image, row, lent.state, &mut bytes[..z.nets]);
-            plain::write_outputs(lent.image, &bytes[..z.nets], slot);
-        } else {
-            if now == 0 {
-                work_out::<0, ODD>(lent.image, z.nets, &mut bytes, &mut out);
-            } else {
-                work_out::<ODD, 0>(lent.image, z.nets, &mut bytes, &mut out);
-            }
-            slot.copy_from_slice(&out[..z.outputs]);
+        match cycle {
+            0 => start(&call, z, &mut bytes, &mut out),
+            _ if now == 0 => work_out::<0, ODD>(image, n, &mut bytes, &mut out),
+            _ => work_out::<ODD, 0>(image, n, &mut bytes, &mut out),
         }
-        let nets = &bytes[now..now + z.nets];
+        call.slot(z, cycle).copy_from_slice(&out[..z.outputs]);
+        let nets = &bytes[now..now + n];
         if first.is_none() {
-            first = plain::verdict(lent.image, nets).map(|net| (cycle, net));
+            first = plain::verdict(image, nets).map(|net| (cycle, net));
         }
-        if cycle + 1 == lent.k {
-            plain::clock(lent.image, nets, lent.state);
+        if cycle + 1 == call.k {
+            plain::clock(image, nets, call.state);
         }
     }
     first
 }
 
-/// Where pin a of each kind is looked for.
-fn bases(now: usize, before: usize) -> [u16; 256] {
-    let mut bases = [now as u16; 256];
-    bases[0] = CONSTANTS as u16;
-    bases[1] = ROW as u16;
-    bases[2] = before as u16;
-    bases
+/// Cycle 0, in which the REGs show the state.
+fn start(call: &Call, z: Sizes, bytes: &mut Buffer, out: &mut Outputs) {
+    let nets = &mut bytes[..z.nets];
+    plain::work_out(call.image, call.row(z, 0), call.state, nets);
+    plain::write_outputs(call.image, nets, &mut out[..z.outputs]);
+}
+
+/// Where pin a of a kind is looked for. `counted` is all ones for an INPUT, whose
+/// place is further on by the INPUTs before it, and else 0.
+#[derive(Clone, Copy, Default)]
+struct Entry {
+    base: u16,
+    counted: u16,
+}
+
+/// The entries of all kinds.
+fn entries(now: usize, before: usize) -> [Entry; 256] {
+    let entry = |base: usize, counted: u16| Entry {
+        base: base as u16,
+        counted,
+    };
+    let mut entries = [entry(now, 0); 256];
+    entries[0] = entry(CONSTANTS, 0);
+    entries[1] = entry(ROW, u16::MAX);
+    entries[2] = entry(before, 0);
+    entries
 }
 
 /// The bytes of all nets, and the outputs.
@@ -70,27 +82,22 @@ fn work_out<const NOW: usize, const BEFORE: usize>(
     bytes: &mut Buffer,
     out: &mut Outputs,
 ) {
-    let bases = bases(NOW, BEFORE);
+    let entries = entries(NOW, BEFORE);
     let (kinds, operands) = image[HEAD..].split_at(n);
+    let nets = operands.as_chunks::<2>().0.as_chunks::<3>().0;
     let (mut i, mut inputs, mut outputs) = (0u16, 0u16, 0u16);
-    for (kind, pins) in kinds.iter().zip(operands.chunks_exact(6)) {
-        let a = u16::from_le_bytes([pins[0], pins[1]]);
-        let b = u16::from_le_bytes([pins[2], pins[3]]);
-        let c = u16::from_le_bytes([pins[4], pins[5]]);
-        let taken = if *kind == INPUT { inputs } else { 0 };
-        let base = bases[usize::from(*kind)];
-        let pin_a = bytes[usize::from(base) + usize::from(a) + usize::from(taken)];
-        let pin_b = bytes[NOW + usize::from(b)];
-        let pin_c = bytes[NOW + usize::from(c)];
-        let index = usize::from(*kind) * 64
-            + usize::from(pin_a) * 16
-            + usize::from(pin_b) * 4
-            + usize::from(pin_c);
-        let byte = WIDE[index];
+    for (kind, pins) in kinds.iter().zip(nets) {
+        let [a, b, c] = pins.map(|pin| usize::from(u16::from_le_bytes(pin)));
+        let entry = entries[usize::from(*kind)];
+        let taken = usize::from(inputs & entry.counted);
+        let pin_a = usize::from(bytes[usize::from(entry.base) + a + taken]);
+        let pin_b = usize::from(bytes[NOW + b]);
+        let pin_c = usize::from(bytes[NOW + c]);
+        let byte = WIDE[((usize::from(*kind) * 4 + pin_a) * 4 + pin_b) * 4 + pin_c];
         bytes[NOW + usize::from(i)] = byte;
         out[usize::from(outputs)] = byte;
         i = i.wrapping_add(1);
-        inputs = inputs.wrapping_add(u16::from(*kind == INPUT));
-        outputs = outputs.wrapping_add(u16::from(*kind == OUT));
+        inputs = inputs.wrapping_sub(entry.counted);
+        outputs = outputs.wrapping_add(u16::from(*kind >= OUT));
     }
 }

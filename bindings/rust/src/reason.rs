@@ -51,7 +51,7 @@ pub enum Reason {
     /// 16: The doubled buffer's length is not that of the doubled image.
     DoubledLength = 16,
     /// 17: The finished doubled image draws one of 1 to 8, and the buffer is
-    /// set to 0. No image is known to lead here.
+    /// set to 0. No image leads here.
     DoubledRefused = 17,
 }
 

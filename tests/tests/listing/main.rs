@@ -3,6 +3,7 @@
 mod closed;
 mod compare;
 mod counter;
+mod failing;
 mod folder;
 mod long;
 mod planned;

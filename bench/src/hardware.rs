@@ -1,0 +1,102 @@
+//! The mode `netlist`: what `hardware/compare` gives to the hardware tools.
+//!
+//! It writes a random netlist as Verilog and as an image, its rows, and the
+//! outputs that the library gives. Vectors are lines of hexadecimal digits, a
+//! line a cycle: the marks, and below them the values.
+
+use std::fs;
+use std::io;
+use std::path::Path;
+
+use crate::cases::Bytes;
+use crate::generate::{image, Mix};
+use crate::image::{nets_of, CONST, INPUT, MUX, NOT, OUT, REG};
+use crate::peers::PEERS;
+use crate::verilog::{net, top, MuxAs};
+
+/// Writes the files of one netlist into a folder.
+pub fn write_files(mix: Mix, nets: usize, seed: u64, k: usize, folder: &Path) -> io::Result<()> {
+    let bytes = Bytes::with_image(image(mix, nets, seed, true), k, seed + 1);
+    let mut state = bytes.start.clone();
+    let mut outputs = bytes.outputs(k);
+    let answer = bytes.run(PEERS[0], k, &mut state, &mut outputs);
+    assert!(answer >> 32 == 0, "the library turned the run back");
+    let z = bytes.sizes;
+    let image = &bytes.image;
+    fs::write(folder.join("net.v"), net(image, MuxAs::Gates))?;
+    fs::write(folder.join("net-mux.v"), net(image, MuxAs::Cell))?;
+    fs::write(folder.join("top.v"), top(image))?;
+    fs::write(folder.join("image.bin"), image)?;
+    fs::write(folder.join("rows.bin"), &bytes.rows)?;
+    fs::write(folder.join("rows.hex"), vectors(&bytes.rows, z.inputs, k))?;
+    fs::write(folder.join("outputs.hex"), vectors(&outputs, z.outputs, k))?;
+    fs::write(folder.join("sizes.vh"), sizes(&bytes, k))?;
+    let marked = outputs.iter().filter(|byte| **byte >= 2).count();
+    print!("{} nets needed by an OUT or REG, ", needed(image));
+    println!("{marked} of {} output bytes marked", outputs.len());
+    Ok(())
+}
+
+/// The widths of the ports and the values of the registers at power-up.
+fn sizes(bytes: &Bytes, k: usize) -> String {
+    let z = bytes.sizes;
+    let bits: String = bytes
+        .start
+        .iter()
+        .rev()
+        .map(|byte| byte.to_string())
+        .collect();
+    let mut text = format!("`define I {}\n", z.inputs.max(1));
+    text += &format!("`define R {}\n", z.registers.max(1));
+    text += &format!("`define O {}\n", z.outputs.max(1));
+    text += &format!("`define K {}\n", k.max(1));
+    text + &format!("`define START {}'b0{bits}\n", z.registers + 1)
+}
+
+/// A line for each of k cycles of `width` bytes.
+fn vectors(bytes: &[u8], width: usize, k: usize) -> String {
+    let mut text = String::new();
+    for cycle in 0..k {
+        text += &vector(&bytes[cycle * width..][..width]);
+        text.push('\n');
+    }
+    text
+}
+
+/// The marks and then the values, the last byte's first. A vector of no bytes
+/// counts as one byte 0.
+fn vector(bytes: &[u8]) -> String {
+    let bytes = if bytes.is_empty() { &[0] } else { bytes };
+    let values = bytes.iter().map(|byte| byte & 1);
+    let bits: Vec<u8> = values.chain(bytes.iter().map(|byte| byte >> 1)).collect();
+    let digit = |four: &[u8]| four.iter().rev().fold(0, |digit, bit| digit * 2 + bit);
+    let digits = bits
+        .chunks(4)
+        .rev()
+        .map(|four| format!("{:x}", digit(four)));
+    digits.collect()
+}
+
+/// How many nets an OUT or a REG's pin depends on within a cycle. Compilers leave
+/// out the others.
+fn needed(image: &[u8]) -> usize {
+    let nets = nets_of(image);
+    let mut needed = vec![false; nets.len()];
+    for net in nets.iter().filter(|net| net.kind == REG) {
+        needed[usize::from(net.a)] = true;
+    }
+    for (i, net) in nets.iter().enumerate().rev() {
+        needed[i] |= net.kind == OUT;
+        let pins: &[u16] = match net.kind {
+            _ if !needed[i] => &[],
+            CONST | INPUT | REG => &[],
+            NOT | OUT => &[net.a],
+            MUX => &[net.a, net.b, net.c],
+            _ => &[net.a, net.b],
+        };
+        for pin in pins {
+            needed[usize::from(*pin)] = true;
+        }
+    }
+    needed.iter().filter(|net| **net).count()
+}
