@@ -3,8 +3,8 @@
 use crate::call::Call;
 use crate::generate::{image, rows, Mix};
 use crate::image::{sizes_of, Sizes};
-use crate::library;
 use crate::peers::Peer;
+use tracker::ffi;
 
 /// The seeds of the netlists and of the rows.
 const NETLIST_SEED: u64 = 1;
@@ -70,7 +70,7 @@ impl Bytes {
     pub fn with_image(image: Vec<u8>, k: usize, seed: u64) -> Bytes {
         let sizes = sizes_of(&image);
         let mut start = vec![0; sizes.registers];
-        assert_eq!(library::power_up(&image, &mut start), 0);
+        assert_eq!(ffi::power_up(&image, &mut start), 0);
         Bytes {
             rows: rows(k * sizes.inputs, seed),
             image,

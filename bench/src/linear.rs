@@ -6,8 +6,8 @@ use std::time::Instant;
 use crate::aligned::{cells, print};
 use crate::generate::{image, Mix};
 use crate::image::HEAD;
-use crate::library;
 use crate::rounds::{lowest, median};
+use tracker::ffi;
 
 /// The source nets. The doubled netlist has to stay within 8,192 nets.
 const CHECKED: [usize; 4] = [1024, 2048, 4096, 8192];
@@ -49,7 +49,7 @@ fn size(nets: usize) -> Size {
 pub fn print_checking() {
     println!("\ncheck, kinds equally likely, {ROUNDS} rounds of {CALLS} calls");
     let mut sizes = CHECKED.map(size);
-    let times = times(&mut sizes, |size| library::check(black_box(&size.image)));
+    let times = times(&mut sizes, |size| ffi::check(black_box(&size.image)));
     let names = sizes.map(|size| format!("{} nets", size.nets));
     print_table(&names, &times);
 }
@@ -61,10 +61,10 @@ pub fn print_doubling() {
     );
     let mut sizes = DOUBLED.map(size);
     let times = times(&mut sizes, |size| {
-        library::double(black_box(&size.image), black_box(&mut size.buffer))
+        ffi::double(black_box(&size.image), black_box(&mut size.buffer))
     });
     for size in &sizes {
-        assert_eq!(library::check(&size.buffer), 0);
+        assert_eq!(ffi::check(&size.buffer), 0);
     }
     let names = sizes.map(|size| format!("{} nets, {} doubled", size.nets, size.doubled));
     print_table(&names, &times);

@@ -15,7 +15,6 @@ mod forms;
 mod generate;
 mod hardware;
 mod image;
-mod library;
 mod linear;
 mod peers;
 mod plain;

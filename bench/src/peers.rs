@@ -1,7 +1,8 @@
 //! The library and its peers, all with the same call.
 
 use crate::call::{checked, Call};
-use crate::{decoded, forms, library, plain};
+use crate::{decoded, forms, plain};
+use tracker::ffi;
 
 /// Something that runs an image.
 #[derive(Clone, Copy)]
@@ -15,7 +16,7 @@ pub struct Peer {
 pub const PEERS: [Peer; 4] = [
     Peer {
         name: "library",
-        run: library::run,
+        run: |call| ffi::run(call.image, call.k, call.state, call.rows, call.outputs),
     },
     Peer {
         name: "plain",

@@ -1,18 +1,22 @@
-//! The functions of the static library, each behind a safe function on slices.
+//! The functions of the static library themselves, whose answers are numbers as
+//! `include/tracker.h` says: as it declares them, and each on slices.
 //!
-//! They are declared as in `include/tracker.h`. Each wants pointers that are
-//! not null, each to as many bytes as the length beside it says, and a buffer
-//! that is written must not overlap another one. It keeps no pointer.
+//! Those that it declares want pointers that are not null, each to as many bytes
+//! as the length beside it says, and a buffer that is written must not overlap
+//! another one. They keep no pointer.
 
 extern "C" {
-    fn tracker_check(image: *const u8, image_length: usize) -> u64;
-    fn tracker_power_up(
+    /// Whether an image is a netlist.
+    pub fn tracker_check(image: *const u8, image_length: usize) -> u64;
+    /// Sets each register to its start.
+    pub fn tracker_power_up(
         image: *const u8,
         image_length: usize,
         state: *mut u8,
         state_length: usize,
     ) -> u64;
-    fn tracker_step(
+    /// Takes one clock cycle.
+    pub fn tracker_step(
         image: *const u8,
         image_length: usize,
         state: *mut u8,
@@ -22,7 +26,8 @@ extern "C" {
         nets: *mut u8,
         nets_length: usize,
     ) -> u64;
-    fn tracker_run(
+    /// Takes k clock cycles.
+    pub fn tracker_run(
         image: *const u8,
         image_length: usize,
         k: usize,
@@ -33,7 +38,8 @@ extern "C" {
         outputs: *mut u8,
         outputs_length: usize,
     ) -> u64;
-    fn tracker_double(
+    /// Writes the doubled netlist.
+    pub fn tracker_double(
         image: *const u8,
         image_length: usize,
         buffer: *mut u8,
@@ -41,20 +47,23 @@ extern "C" {
     ) -> u64;
 }
 
-pub(crate) fn check(image: &[u8]) -> u64 {
+/// Whether an image is a netlist.
+pub fn check(image: &[u8]) -> u64 {
     // SAFETY: The pointer and the length are those of a slice, which is
     // borrowed until the call returns and is only read.
     unsafe { tracker_check(image.as_ptr(), image.len()) }
 }
 
-pub(crate) fn power_up(image: &[u8], state: &mut [u8]) -> u64 {
+/// Sets each register to its start.
+pub fn power_up(image: &[u8], state: &mut [u8]) -> u64 {
     // SAFETY: Each pointer and length are those of a slice, which is borrowed
     // until the call returns; the state is borrowed mutably, so it overlaps
     // nothing.
     unsafe { tracker_power_up(image.as_ptr(), image.len(), state.as_mut_ptr(), state.len()) }
 }
 
-pub(crate) fn step(image: &[u8], state: &mut [u8], row: &[u8], nets: &mut [u8]) -> u64 {
+/// Takes one clock cycle.
+pub fn step(image: &[u8], state: &mut [u8], row: &[u8], nets: &mut [u8]) -> u64 {
     // SAFETY: Each pointer and length are those of a slice, which is borrowed
     // until the call returns; the state and the nets are borrowed mutably, so
     // neither overlaps another slice.
@@ -72,13 +81,8 @@ pub(crate) fn step(image: &[u8], state: &mut [u8], row: &[u8], nets: &mut [u8]) 
     }
 }
 
-pub(crate) fn run(
-    image: &[u8],
-    k: usize,
-    state: &mut [u8],
-    rows: &[u8],
-    outputs: &mut [u8],
-) -> u64 {
+/// Takes k clock cycles.
+pub fn run(image: &[u8], k: usize, state: &mut [u8], rows: &[u8], outputs: &mut [u8]) -> u64 {
     // SAFETY: Each pointer and length are those of a slice, which is borrowed
     // until the call returns; the state and the outputs are borrowed mutably,
     // so neither overlaps another slice.
@@ -97,7 +101,8 @@ pub(crate) fn run(
     }
 }
 
-pub(crate) fn double(image: &[u8], buffer: &mut [u8]) -> u64 {
+/// Writes the doubled netlist.
+pub fn double(image: &[u8], buffer: &mut [u8]) -> u64 {
     // SAFETY: Each pointer and length are those of a slice, which is borrowed
     // until the call returns; the buffer is borrowed mutably, so it overlaps
     // nothing.

@@ -43,7 +43,7 @@
 mod answers;
 mod calls;
 #[allow(unsafe_code)]
-mod ffi;
+pub mod ffi;
 mod image;
 mod reason;
 mod refusal;
