@@ -1,5 +1,5 @@
 -- The number of an answer, taken apart, gives the answer back.
-use Prim.Native.Nat.{ℕ, _≤_}
+use Prim.Native.Nat.{_≤_}
 use native.Mathlib.Omega.{arith}
 use mathlib.Core.Option.{Option}
 use Rattle.netlist.specs.declared.answer.Refusal.{Refusal}

@@ -1,5 +1,5 @@
 -- How large the number of an answer is: below 2^32 without a refusal, and below 2^64 with one.
-use Prim.Native.Nat.{ℕ, zero, suc, _+_, _*_, _^_, _≤_, _<_}
+use Prim.Native.Nat.{ℕ, zero, suc, _+_, _^_, _≤_, _<_}
 use native.Mathlib.Omega.{arith}
 use mathlib.Core.Path.{_≡_, refl}
 use mathlib.Core.List.{List}
@@ -8,7 +8,6 @@ use lib.ListN.{length, take, drop}
 use Rattle.netlist.specs.declared.image.Net.{Net}
 use Rattle.netlist.specs.Image.{sizesOf, netsOf}
 use Rattle.netlist.specs.declared.answer.Refusal.{Refusal}
-use Rattle.netlist.specs.Check.{checkRefusal}
 use Rattle.netlist.proofs.Checked.{length-nets}
 use Rattle.tracker.specs.Cycle.{Verdict, clear, flow, cycleOf, cyclesOf, FirstFlow, firstOf, firstFlow}
 use Rattle.tracker.specs.Calls.{Answer, done, refused, asStep, asRun, powerUpRefusal, powerUpOf, stepRefusal, stepOf, runRefusal, runOf}
@@ -18,7 +17,7 @@ use Rattle.doubling.proofs.Checks.{double-accepted, double-refused}
 use Rattle.claims.specs.Verdicts.{Judged, none, lowest}
 use Rattle.claims.proofs.Verdicts.{verdicts}
 use Rattle.exports.specs.Codes.{refusalCode, outcomeCode, verdictCode, firstFlowCode, answerCode}
-use Rattle.exports.proofs.Given.{Tabled, Given, no, one, check-given, power-up-given, step-given, run-given, double-given}
+use Rattle.exports.proofs.Given.{Tabled, Given, no, one, power-up-given, step-given, run-given, double-given}
 
 -- a verdict names a net, so its number is at most the number of nets
 judged-small : {xs : List Net} {bs : List ℕ} {v : Verdict} → Judged xs bs v → verdictCode v ≤ length xs

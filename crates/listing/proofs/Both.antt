@@ -1,5 +1,5 @@
 -- Two tests that hold together.
-use mathlib.Core.Path.{_≡_, refl}
+use mathlib.Core.Path.{_≡_}
 use mathlib.Core.Bool.{Bool, true, false, _&&_}
 
 pub second : (p q : Bool) → (p && q) ≡ true → q ≡ true

@@ -7,7 +7,7 @@ use mathlib.Core.Option.{none}
 use lib.Dec.{T, ltb}
 use lib.ListN.{getD}
 use borrow.Author.Tests.{ltb-true}
-use Rattle.gates.proofs.Entries.{every, entry}
+use Rattle.gates.proofs.Entries.{entry}
 use Rattle.netlist.specs.declared.image.Net.{Net}
 use Rattle.netlist.specs.Image.{net}
 use Rattle.netlist.specs.Check.{netRefusal}

@@ -1,6 +1,6 @@
 -- `exports::codes::run_code` meets its contract: the code of the first flow or of the refusal fits, as is asked, and so do the parts of its sum.
 use Prim.Native.Nat.{ℕ, _^_, _<_}
-use mathlib.Core.Path.{_≡_, sym, ap, _∙_, subst}
+use mathlib.Core.Path.{sym, ap, _∙_, subst}
 use native.Mathlib.Omega.{arith}
 use borrow.Author.Needs.{needs}
 use Rattle.tracker.specs.declared.answer.RunAnswer.{RunAnswer}

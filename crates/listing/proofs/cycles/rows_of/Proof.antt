@@ -1,5 +1,4 @@
 -- `listing::cycles::rows_of` meets its contract: whole rows are no more than there is.
-use Prim.Native.Nat.{_*_, _/_, _≤_}
 use native.Mathlib.Omega.{arith}
 use native.Mathlib.Nat.{div-mul-le-self}
 use borrow.Author.Needs.{needs}

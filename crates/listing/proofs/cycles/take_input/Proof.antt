@@ -1,5 +1,5 @@
 -- `listing::cycles::take_input` is safe and ends: each turn is one read of at most 65,536 rows, and reads are counted.
-use Prim.Native.Nat.{_+_, _-_, _*_, _≤_, _<_}
+use Prim.Native.Nat.{_-_, _*_, _≤_, _<_}
 use native.Mathlib.Omega.{arith}
 use mathlib.Core.Path.{_≡_, refl, _∙_}
 use lib.ListN.{length}

@@ -1,9 +1,8 @@
 -- `listing::cycles::take_rows` meets its contract: each row is a part of what was read, and one cycle at the most.
-use Prim.Native.Nat.{_+_, _-_, _≤_, _<_}
+use Prim.Native.Nat.{_+_, _-_, _≤_}
 use native.Mathlib.Omega.{arith}
 use mathlib.Core.Path.{_≡_, refl, _∙_}
 use lib.ListN.{length}
-use borrow.Author.Needs.{needs}
 use borrow.Author.Tests.{leb-true}
 use Rattle.listing.proofs.Both.{second}
 use Rattle.listing.proofs.cycles.take_rows.Statement.{statement}

@@ -1,5 +1,4 @@
 -- `listing_text::pieces::put_outputs` meets its contract: a - where there is no output, and else the digits.
-use mathlib.Core.Path.{sym}
 use lib.ListN.{length-map}
 use borrow.Author.Needs.{needs}
 use Rattle.listing_text.proofs.Putting.{no-outputs, some-outputs}

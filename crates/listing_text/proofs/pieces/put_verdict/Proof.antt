@@ -1,8 +1,7 @@
 -- `listing_text::pieces::put_verdict` meets its contract.
 use Prim.Native.Nat.{_+_, _≤_}
-use mathlib.Core.Path.{_≡_, sym, subst}
+use mathlib.Core.Path.{subst}
 use lib.ListN.{length}
-use lib.Seq.{sets}
 use borrow.Author.Needs.{needs}
 use Rattle.tracker.specs.Answers.{verdictIn}
 use Rattle.listing_text.specs.Lines.{verdictText}
