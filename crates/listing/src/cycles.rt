@@ -35,7 +35,7 @@ fn take_row(
     p: Progress,
     text: &mut [u8],
 ) -> Progress
-    requires { ⌜ (p .used ≤ length (now text)) × (p .cycles + 1 < 2 ^ 64) ⌝ }
+    requires { ⌜ (p .used ≤ length (now text)) × (8240 ≤ length (now text)) × (length (now outputs) ≤ 8192) × (p .cycles + 1 < 2 ^ 64) ⌝ }
     ensures { λ r. ⌜ (r .used ≤ length (now (text .exit))) × (r .cycles ≤ p .cycles + 1) ⌝ }
 {
     let a = run(image, 1, state, row, outputs);
@@ -58,7 +58,8 @@ fn take_rows(
     begin: Progress,
     text: &mut [u8],
 ) -> Progress
-    requires { ⌜ (begin .used ≤ length (now text)) × (begin .cycles + length (now rows) < 2 ^ 64) × (0 < inputs) ⌝ }
+    requires { ⌜ (begin .used ≤ length (now text)) × (8240 ≤ length (now text)) × (length (now outputs) ≤ 8192) ⌝ }
+    requires { ⌜ (begin .cycles + length (now rows) < 2 ^ 64) × (0 < inputs) ⌝ }
     ensures { λ r. ⌜ (r .used ≤ length (now (text .exit))) × (r .cycles ≤ begin .cycles + length (now (rows .entry))) ⌝ }
 {
     let mut p = begin;
@@ -104,7 +105,8 @@ fn take_some(
     p: Progress,
     text: &mut [u8],
 ) -> Progress
-    requires { ⌜ (p .used ≤ length (now text)) × (p .cycles + length (now rows) < 2 ^ 64) × (0 < inputs) ⌝ }
+    requires { ⌜ (p .used ≤ length (now text)) × (8240 ≤ length (now text)) × (length (now outputs) ≤ 8192) ⌝ }
+    requires { ⌜ (p .cycles + length (now rows) < 2 ^ 64) × (0 < inputs) ⌝ }
     ensures { λ r. ⌜ (r .used ≤ length (now (text .exit))) × (r .cycles ≤ p .cycles + length (now (rows .entry))) ⌝ }
 {
     let got = fill(STDIN_FILENO, rows);
@@ -125,6 +127,7 @@ fn take_input(
     rows: &mut [u8],
     text: &mut [u8],
 )
+    requires { ⌜ (8240 ≤ length (now text)) × (length (now outputs) ≤ 8192) ⌝ }
     requires { ⌜ (0 < inputs) × (length (now rows) ≤ 65536) ⌝ }
 {
     power_up(image, state);

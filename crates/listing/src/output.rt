@@ -5,8 +5,12 @@ use listing_text::end_line;
 use listing_text::refused_line;
 use netlist::Refusal;
 use tracker::Verdict;
+ghost use mathlib.Core.Path.{_≡_};
 ghost use Prim.Native.Nat.{_+_, _≤_, _<_, _^_};
-ghost use lib.ListN.{length};
+ghost use lib.ListN.{length, take};
+ghost use Rattle.tracker.specs.Answers.{verdictIn};
+ghost use Rattle.listing_text.specs.Lines.{cycleLine};
+ghost use Rattle.listing.specs.Printed.{EndsWith};
 
 // The longest line: a cycle of 20 digits, 8,192 outputs, a flow at a net of 20 digits, the spaces and the end of the line.
 const LONGEST: usize = 8240;
@@ -22,7 +26,7 @@ pub struct Progress {
 // Writes out what is in the buffer. A write that fails ends the listing.
 fn write_out(text: &[u8], p: Progress) -> Progress
     requires { ⌜ p .used ≤ length (now text) ⌝ }
-    ensures { λ r. ⌜ (r .used ≤ 0) × (r .cycles ≤ p .cycles) ⌝ }
+    ensures { λ r. ⌜ (r .used ≡ 0) × (r .cycles ≡ p .cycles) ⌝ }
 {
     let n = p.used;
     let written = io::write_all(STDOUT_FILENO, &text[..n]);
@@ -38,8 +42,8 @@ fn write_out(text: &[u8], p: Progress) -> Progress
 
 // Writes out what is in the buffer where the next line might not fit behind it.
 fn make_room(text: &[u8], p: Progress) -> Progress
-    requires { ⌜ p .used ≤ length (now text) ⌝ }
-    ensures { λ r. ⌜ (r .used ≤ p .used) × (r .cycles ≤ p .cycles) ⌝ }
+    requires { ⌜ (p .used ≤ length (now text)) × (8240 ≤ length (now text)) ⌝ }
+    ensures { λ r. ⌜ (r .used + 8240 ≤ length (now (text .entry))) × (r .cycles ≡ p .cycles) ⌝ }
 {
     if text.len() - p.used < LONGEST {
         write_out(text, p)
@@ -48,10 +52,11 @@ fn make_room(text: &[u8], p: Progress) -> Progress
     }
 }
 
-// The line of the next cycle.
+// The line of the next cycle: the text that is gathered ends with it.
 pub fn print_cycle(text: &mut [u8], p: Progress, outputs: &[u8], verdict: Verdict) -> Progress
-    requires { ⌜ (p .used ≤ length (now text)) × (p .cycles + 1 < 2 ^ 64) ⌝ }
-    ensures { λ r. ⌜ (r .used ≤ length (now (text .exit))) × (r .cycles ≤ p .cycles + 1) ⌝ }
+    requires { ⌜ (p .used ≤ length (now text)) × (8240 ≤ length (now text)) × (length (now outputs) ≤ 8192) × (p .cycles + 1 < 2 ^ 64) ⌝ }
+    ensures { λ r. ⌜ EndsWith (cycleLine (p .cycles) (now (outputs .entry)) (verdictIn verdict)) (take (r .used) (now (text .exit))) ⌝ }
+    ensures { λ r. ⌜ (r .used ≤ length (now (text .exit))) × (r .cycles ≡ p .cycles + 1) ⌝ }
 {
     let q = make_room(text, p);
     let used = cycle_line(text, q.used, q.cycles, outputs, verdict);
@@ -64,8 +69,8 @@ pub fn print_cycle(text: &mut [u8], p: Progress, outputs: &[u8], verdict: Verdic
 
 // The last line, with the number of cycles. The listing is closed then.
 pub fn print_end(text: &mut [u8], p: Progress) -> Progress
-    requires { ⌜ p .used ≤ length (now text) ⌝ }
-    ensures { λ r. ⌜ (r .used ≤ length (now (text .exit))) × (r .cycles ≤ p .cycles) ⌝ }
+    requires { ⌜ (p .used ≤ length (now text)) × (8240 ≤ length (now text)) ⌝ }
+    ensures { λ r. ⌜ (r .used ≤ length (now (text .exit))) × (r .cycles ≡ p .cycles) ⌝ }
 {
     let q = make_room(text, p);
     if q.open {
@@ -84,8 +89,8 @@ pub fn print_end(text: &mut [u8], p: Progress) -> Progress
 
 // The last line of a listing that turned back. The listing is closed then.
 pub fn print_refusal(text: &mut [u8], p: Progress, refusal: Refusal) -> Progress
-    requires { ⌜ p .used ≤ length (now text) ⌝ }
-    ensures { λ r. ⌜ (r .used ≤ length (now (text .exit))) × (r .cycles ≤ p .cycles) ⌝ }
+    requires { ⌜ (p .used ≤ length (now text)) × (8240 ≤ length (now text)) ⌝ }
+    ensures { λ r. ⌜ (r .used ≤ length (now (text .exit))) × (r .cycles ≡ p .cycles) ⌝ }
 {
     let q = make_room(text, p);
     if q.open {
@@ -104,8 +109,8 @@ pub fn print_refusal(text: &mut [u8], p: Progress, refusal: Refusal) -> Progress
 
 // The end of the input; where a read failed, the lines so far are written out, and no last line.
 pub fn print_last(text: &mut [u8], p: Progress, failed: bool) -> Progress
-    requires { ⌜ p .used ≤ length (now text) ⌝ }
-    ensures { λ r. ⌜ (r .used ≤ length (now (text .exit))) × (r .cycles ≤ p .cycles) ⌝ }
+    requires { ⌜ (p .used ≤ length (now text)) × (8240 ≤ length (now text)) ⌝ }
+    ensures { λ r. ⌜ (r .used ≤ length (now (text .exit))) × (r .cycles ≡ p .cycles) ⌝ }
 {
     if failed {
         os::fail(b"standard input");

@@ -14,6 +14,11 @@ unfolding outputDigits
 outputs-most [] = omega arith
 outputs-most (x ∷ xs) = omega (arith, length-map xs digit)
 
+pub outputs-within : (n : ℕ) (xs : List ℕ) → 1 ≤ n → length xs ≤ n → length (outputDigits xs) ≤ n
+unfolding outputDigits
+outputs-within n [] l h = omega arith
+outputs-within n (x ∷ xs) l h = omega (arith, length-map xs digit)
+
 pub verdict-most : (v : Verdict) → length (verdictText v) ≤ 25
 verdict-most clear = omega arith
 verdict-most (flow net) = omega (arith, decimal-most net)
@@ -33,6 +38,11 @@ cycle-length cycle outputs v =
       length-append (number ++ space ++ digits ++ space) verdict,
       length-append (number ++ space ++ digits ++ space ++ verdict) newline,
     )
+
+-- of at most 8,192 outputs
+pub cycle-most : (cycle : ℕ) (outputs : List ℕ) (v : Verdict) → length outputs ≤ 8192 → length (cycleLine cycle outputs v) ≤ 8240
+cycle-most cycle outputs v h =
+    omega (arith, cycle-length cycle outputs v, decimal-most cycle, outputs-within 8192 outputs (omega arith) h, verdict-most v)
 
 pub end-length : (cycles : ℕ) → length (decimal cycles) + 5 ≡ length (endLine cycles)
 unfolding endLine

@@ -6,9 +6,9 @@ use mathlib.Core.Path.{_≡_, refl, ap, _∙_}
 use mathlib.Core.Bool.{Bool, true, false}
 use mathlib.Core.List.{List, [], _∷_, _++_, map}
 use lib.Dec.{leb}
-use lib.ListN.{length, getD, set, drop, length-set, length-append}
-use lib.Seq.{sets, length-sets, drop-cons, drop-length}
-use borrow.Author.Tests.{leb-true}
+use lib.ListN.{length, getD, take, set, drop, length-set, length-append}
+use lib.Seq.{sets, length-sets, sets-eq, drop-cons, drop-length, length-take-le, take-at}
+use borrow.Author.Tests.{leb-true, le-leb}
 use Rattle.listing_text.specs.Lines.{digit, outputDigits, Put, put, did}
 
 -- BYTE BY BYTE. The bytes f x, for each x of xs, are put into a buffer from place at on, and the first i of them stand: what is left, put behind them, gives the whole
@@ -87,6 +87,20 @@ place-within d p line {d′} {p′} e h = by (leb (p + length line) (length d)) 
     by false t =
         let f : did d′ p′ ≡ did d p = e ∙ rw t in
         omega (arith, ap (λ (x : Put). x .place) f, ap (λ (x : Put). length (x .buffer)) f)
+
+-- a line that fits is put, and stands behind what was there
+module _ (d : List ℕ) (p : ℕ) (line : List ℕ) (h : p + length line ≤ length d) {d′ : List ℕ} {p′ : ℕ} (e : did d′ p′ ≡ put d p line) where
+  put-is : did d′ p′ ≡ did (sets d p line) (p + length line)
+  unfolding put
+  put-is = e ∙ rw (le-leb (p + length line) (length d) h)
+
+  pub put-place : p′ ≡ p + length line
+  put-place = ap (λ (x : Put). x .place) put-is
+
+  pub put-text : take p′ d′ ≡ take p d ++ line
+  put-text =
+      let size : length (take p d ++ line) ≡ p + length line = rw (length-append, length-take-le p d (omega arith)) in
+      rw (put-place, ap (λ (x : Put). x .buffer) put-is, sets-eq line d p h) (take-at (take p d ++ line) (drop (p + length line) d) (p + length line) size)
 
 -- OUTPUTS. No output is a -, and others are their digits
 pub no-outputs : (xs : List ℕ) → length xs ≡ 0 → outputDigits xs ≡ 45 ∷ []

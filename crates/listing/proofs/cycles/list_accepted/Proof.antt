@@ -4,6 +4,7 @@ use native.Mathlib.Omega.{arith}
 use native.Mathlib.Nat.{div-mul-le-self}
 use mathlib.Core.Path.{sym, ap}
 use mathlib.Core.List.{List}
+use lib.Dec.{lit≤}
 use lib.ListN.{length, take}
 use lib.Seq.{length-take-le}
 use borrow.Author.Needs.{needs}
@@ -48,15 +49,15 @@ array-borrow-prefix-rows c = rows (c .before .before .before .before .before .be
 slice-aggregate-take-input-3 : tie.Need-slice-aggregate-take-input-3
 slice-aggregate-take-input-3 c = sym (length-take-le _ _ (rows (c .before .before .before .before .before .before .before .before)))
 
-part-most : (n : ℕ) (l : List ℕ) → n ≤ length l → n ≤ 65536 → length (take n l) ≤ 65536
-part-most n l h k = rw (length-take-le n l h) k
+part-most : (m n : ℕ) (l : List ℕ) → n ≤ length l → n ≤ m → length (take n l) ≤ m
+part-most m n l h k = rw (length-take-le n l h) k
 
 take-input-requires : tie.Need-take-input-requires
 take-input-requires c κs =
     let some = c .before .before .before .before .before .before in
     let start = some .before .before .before in
     let h = some .if1 .left in
-    (omega (arith, h), part-most _ _ (rows start) (rows start))
+    ((lit≤ tt, part-most 8192 _ _ (few-outputs start) (few-outputs start)), (omega (arith, h), part-most 65536 _ _ (rows start) (rows start)))
 
 pub list-accepted-spec : {M : Type 1} → statement M
 list-accepted-spec =

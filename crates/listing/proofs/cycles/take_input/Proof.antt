@@ -33,9 +33,12 @@ take-some-requires c κs =
     let turn = c .before .before .before .before in
     let at = turn .before .before in
     let start = at .before .before .before .before .before .before .before .before .before .before in (
-      omega (arith, at .loop .inv .3, at .loop .inv .4),
-      omega (arith, at .loop .inv .2, at .loop .inv .5, start .pre .1, more turn),
-      start .pre .0,
+      (
+        omega (arith, at .loop .inv .3, at .loop .inv .4),
+        omega (arith, at .loop .inv .3, start .pre .0 .0),
+        omega (arith, at .loop .inv .1, start .pre .0 .1),
+      ),
+      (omega (arith, at .loop .inv .2, at .loop .inv .5, start .pre .1 .1, more turn), start .pre .1 .0),
     )
 
 add-reads : tie.Need-add-reads Inv-loop μ-loop
@@ -55,7 +58,7 @@ loop-again c =
       some .take-some .kept .1 .1 .1 .1 .0 ∙ at .loop .inv .2,
       text,
       omega (arith, some .take-some .ensures .0, text),
-      omega (arith, some .take-some .ensures .1, at .loop .inv .2, at .loop .inv .5, start .pre .1),
+      omega (arith, some .take-some .ensures .1, at .loop .inv .2, at .loop .inv .5, start .pre .1 .1),
     )
 
 same-length : tie.Need-same-length Inv-loop μ-loop

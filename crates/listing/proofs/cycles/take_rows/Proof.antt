@@ -23,7 +23,7 @@ abbrev μ-loop : tie.MeasureT-loop
 loop-holds : tie.Need-loop-holds Inv-loop μ-loop
 loop-holds c =
     let start = c .before .before .before .before .before in
-    (refl, refl, refl, start .pre .0, omega arith, omega arith)
+    (refl, refl, refl, start .pre .0 .0, omega arith, omega arith)
 
 sub-if1 : tie.Need-sub-if1 Inv-loop μ-loop
 sub-if1 c = c .loop .inv .4
@@ -50,7 +50,9 @@ take-row-requires c κs =
     let at = row .before .before in
     let start = at .before .before .before .before .before .before in (
       omega (arith, at .loop .inv .2, at .loop .inv .3),
-      omega (arith, whole row, at .loop .inv .5, start .pre .1, start .pre .2),
+      omega (arith, at .loop .inv .2, start .pre .0 .1),
+      omega (arith, at .loop .inv .1, start .pre .0 .2),
+      omega (arith, whole row, at .loop .inv .5, start .pre .1 .0, start .pre .1 .1),
     )
 
 -- what a row leaves
@@ -76,7 +78,7 @@ module _ (c : tie.After-take-row Inv-loop μ-loop) where
 loop-less : tie.Need-loop-less Inv-loop μ-loop
 loop-less c =
     let taken = c .before .before .before .before .before .before in
-    omega (arith, whole (row taken), start taken .pre .2)
+    omega (arith, whole (row taken), start taken .pre .1 .1)
 
 loop-again : tie.Need-loop-again Inv-loop μ-loop
 loop-again c =
@@ -86,7 +88,7 @@ loop-again c =
       same-text taken,
       omega (arith, taken .take-row .ensures .0, same-text taken),
       whole (row taken),
-      omega (arith, taken .take-row .ensures .1, at taken .loop .inv .5, start taken .pre .2),
+      omega (arith, taken .take-row .ensures .1, at taken .loop .inv .5, start taken .pre .1 .1),
     )
 
 print-refusal-requires : tie.Need-print-refusal-requires Inv-loop μ-loop

@@ -26,7 +26,7 @@ take-rows-requires : tie.Need-take-rows-requires
 take-rows-requires c κs =
     let part = c .before .before .before .before in
     let start = part .before .before .before .before .before .before .before .before .before .before in
-    (start .pre .0, omega (arith, within part, start .pre .1), start .pre .2)
+    (start .pre .0, (omega (arith, within part, start .pre .1 .0), start .pre .1 .1))
 
 -- the cycles that are taken
 taken : (c : tie.After-take-rows)

@@ -9,8 +9,7 @@ write-out-requires : tie.Need-write-out-requires
 write-out-requires c κs =
     let put = c .before .before .before in
     let room = put .before .before .before in
-    let start = room .before .before .before in
-    place-within _ _ _ (put .refused-line .ensures) (omega (arith, room .make-room .ensures .0, start .pre))
+    place-within _ _ _ (put .refused-line .ensures) (omega (arith, room .make-room .ensures .0))
 
 pub print-refusal-spec : {M : Type 1} → statement M
 print-refusal-spec =

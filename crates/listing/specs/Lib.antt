@@ -1,0 +1,2 @@
+-- What is promised of the text that the program gathers.
+pub mod Printed
