@@ -1,4 +1,4 @@
--- Laws of images and of refusals, and of lists related place by place.
+-- Laws of images and of refusals, of lists related place by place, and of views.
 pub mod Pairs
 pub mod Refusals
 pub mod Nets
@@ -6,3 +6,4 @@ pub mod Checked
 pub mod Encoding
 pub mod Written
 pub mod Below
+mod Views

@@ -2,5 +2,6 @@
 pub mod Operands
 pub mod Image
 pub mod Check
+pub mod View
 pub mod Writing
 pub mod Limits

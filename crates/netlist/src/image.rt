@@ -1,8 +1,8 @@
 // What stands in an image: the four sizes, then a kind byte for each net, then three operands for each net.
 ghost use mathlib.Core.Path.{_≡_};
-ghost use Prim.Native.Nat.{_+_, _*_, _<_, _≤_};
+ghost use Prim.Native.Nat.{_+_, _*_, _<_};
 ghost use lib.ListN.{length};
-ghost use Rattle.netlist.specs.Image.{u16At, sizesOf, kindAt, operandAt, netAt};
+ghost use Rattle.netlist.specs.Image.{u16At, kindAt, operandAt, netAt};
 
 // N, I, R and O.
 pub struct Sizes {
@@ -32,19 +32,6 @@ pub fn u16_at(s: &[u8], p: usize) -> usize
     ensures { λ r. ⌜ (r ≡ u16At (now (s .entry)) p) × (r < 65536) ⌝ }
 {
     wide(s[p]) + 256 * wide(s[p + 1])
-}
-
-// The four sizes at the start of an image.
-pub fn sizes_of(s: &[u8]) -> Sizes
-    requires { ⌜ 8 ≤ length (now s) ⌝ }
-    ensures { λ r. ⌜ r ≡ sizesOf (now (s .entry)) ⌝ }
-{
-    Sizes {
-        nets: u16_at(s, 0),
-        inputs: u16_at(s, 2),
-        registers: u16_at(s, 4),
-        outputs: u16_at(s, 6),
-    }
 }
 
 // The kind of net i.

@@ -1,0 +1,91 @@
+// The view of an image: the caller's bytes and the four counts that they begin with. Nothing is copied. The borrow checker covers no function over
+// a struct that holds a slice, so each of these is proved by hand, and is thin: it leaves the work to a function of src/image.rt, which takes the
+// slice and numbers.
+use crate::image::Sizes;
+use crate::image::kind_at;
+use crate::image::operand_at;
+use crate::image::u16_at;
+ghost use mathlib.Core.Path.{_≡_};
+ghost use Prim.Native.Nat.{_+_, _*_, _<_, _≤_};
+ghost use lib.ListN.{length};
+ghost use Rattle.netlist.specs.Image.{sizesOf, kindAt, operandAt};
+ghost use Rattle.netlist.specs.View.{countsOf};
+
+// The image, and N, I, R and O.
+pub struct View<'a> {
+    pub image: &'a [u8],
+    pub nets: usize,
+    pub inputs: usize,
+    pub registers: usize,
+    pub outputs: usize,
+}
+
+impl<'a> View<'a> {
+    // The view of an image that has its four sizes.
+    pub fn of(image: &'a [u8]) -> View<'a>
+        requires { ⌜ 8 ≤ length (now image) ⌝ }
+        ensures { λ r. ⌜ (r .image ≡ image .entry) × (countsOf r ≡ sizesOf (now (image .entry))) ⌝ }
+    {
+        View {
+            image,
+            nets: u16_at(image, 0),
+            inputs: u16_at(image, 2),
+            registers: u16_at(image, 4),
+            outputs: u16_at(image, 6),
+        }
+    }
+
+    // Its counts.
+    pub fn sizes(self) -> Sizes
+        ensures { λ r. ⌜ r ≡ countsOf (self .entry) ⌝ }
+    {
+        Sizes {
+            nets: self.nets,
+            inputs: self.inputs,
+            registers: self.registers,
+            outputs: self.outputs,
+        }
+    }
+
+    // The kind of net i.
+    pub fn kind(self, i: usize) -> u8
+        requires { ⌜ 8 + i < length (now (self .image)) ⌝ }
+        ensures { λ r. ⌜ r ≡ kindAt (now (self .entry .image)) i ⌝ }
+    {
+        kind_at(self.image, i)
+    }
+
+    // Operand k of net i: a is 0, b is 1, c is 2.
+    pub fn operand(self, i: usize, k: usize) -> usize
+        requires { ⌜ (i < self .nets) × (k < 3) × (length (now (self .image)) ≡ 8 + 7 * self .nets) ⌝ }
+        ensures { λ r. ⌜ (r ≡ operandAt (now (self .entry .image)) (self .entry .nets) i k) × (r < 65536) ⌝ }
+    {
+        operand_at(self.image, self.nets, i, k)
+    }
+}
+
+// The same of a slice, for callers that hold no view: these are covered like any other function.
+
+// N, I, R and O of an image.
+pub fn sizes_of(image: &[u8]) -> Sizes
+    requires { ⌜ 8 ≤ length (now image) ⌝ }
+    ensures { λ r. ⌜ r ≡ sizesOf (now (image .entry)) ⌝ }
+{
+    View::of(image).sizes()
+}
+
+// The kind of net i of an image.
+pub fn kind_of(image: &[u8], i: usize) -> u8
+    requires { ⌜ 8 + i < length (now image) ⌝ }
+    ensures { λ r. ⌜ r ≡ kindAt (now (image .entry)) i ⌝ }
+{
+    View::of(image).kind(i)
+}
+
+// Operand k of net i of an image.
+pub fn operand_of(image: &[u8], i: usize, k: usize) -> usize
+    requires { ⌜ (i < sizesOf (now image) .nets) × (k < 3) × (length (now image) ≡ 8 + 7 * sizesOf (now image) .nets) ⌝ }
+    ensures { λ r. ⌜ (r ≡ operandAt (now (image .entry)) (sizesOf (now (image .entry)) .nets) i k) × (r < 65536) ⌝ }
+{
+    View::of(image).operand(i, k)
+}
