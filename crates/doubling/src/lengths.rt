@@ -1,5 +1,5 @@
 // Where the groups of the doubled netlist begin.
-use netlist::kind_at;
+use netlist::kind_of;
 ghost use mathlib.Core.Path.{_≡_};
 ghost use mathlib.Core.Option.{none};
 ghost use Rattle.netlist.specs.Image.{sizesOf, netsOf};
@@ -29,7 +29,7 @@ pub fn starts_of(image: &[u8], n: usize) -> [u16; 8193]
     let mut size: u16 = 0;
     let mut i: usize = 0;
     while i < n {
-        let kind = kind_at(image, i);
+        let kind = kind_of(image, i);
         size += lengths[kind as usize];
         i += 1;
         starts[i] = size;

@@ -2,10 +2,10 @@
 use crate::answer::Outcome;
 use crate::answer::refused;
 use crate::image::Sizes;
-use crate::image::net_at;
 use crate::limits::limit_places;
 use crate::net::check_net;
 use crate::net::one_if;
+use crate::view::net_of;
 use crate::view::sizes_of;
 use gates::INPUT;
 use gates::OUT;
@@ -30,7 +30,7 @@ fn check_nets(s: &[u8], z: Sizes) -> Outcome
     let mut outputs: usize = 0;
     let mut i: usize = 0;
     while i < n {
-        let x = net_at(s, n, i);
+        let x = net_of(s, i);
         let o = check_net(&places, n, i, x);
         if let Outcome::Refused(r) = o {
             return Outcome::Refused(r);

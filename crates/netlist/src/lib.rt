@@ -19,6 +19,7 @@ pub use image::operand_at;
 pub use image::u16_at;
 pub use view::View;
 pub use view::kind_of;
+pub use view::net_of;
 pub use view::operand_of;
 pub use view::sizes_of;
 pub use writing::put_net;

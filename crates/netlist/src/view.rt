@@ -1,6 +1,7 @@
 // The view of an image: the caller's bytes and the four counts that they begin with. Nothing is copied. The borrow checker covers no function over
 // a struct that holds a slice, so each of these is proved by hand, and is thin: it leaves the work to a function of src/image.rt, which takes the
 // slice and numbers.
+use crate::image::Net;
 use crate::image::Sizes;
 use crate::image::kind_at;
 use crate::image::operand_at;
@@ -8,7 +9,7 @@ use crate::image::u16_at;
 ghost use mathlib.Core.Path.{_≡_};
 ghost use Prim.Native.Nat.{_+_, _*_, _<_, _≤_};
 ghost use lib.ListN.{length};
-ghost use Rattle.netlist.specs.Image.{sizesOf, kindAt, operandAt};
+ghost use Rattle.netlist.specs.Image.{sizesOf, kindAt, operandAt, netAt};
 ghost use Rattle.netlist.specs.View.{countsOf};
 
 // The image, and N, I, R and O.
@@ -64,7 +65,7 @@ impl<'a> View<'a> {
     }
 }
 
-// The same of a slice, for callers that hold no view: these are covered like any other function.
+// The same of a slice, for callers that hold no view. Each makes one and reads through it; whoever calls it needs no proof by hand.
 
 // N, I, R and O of an image.
 pub fn sizes_of(image: &[u8]) -> Sizes
@@ -88,4 +89,17 @@ pub fn operand_of(image: &[u8], i: usize, k: usize) -> usize
     ensures { λ r. ⌜ (r ≡ operandAt (now (image .entry)) (sizesOf (now (image .entry)) .nets) i k) × (r < 65536) ⌝ }
 {
     View::of(image).operand(i, k)
+}
+
+// Net i of an image.
+pub fn net_of(image: &[u8], i: usize) -> Net
+    requires { ⌜ (i < sizesOf (now image) .nets) × (length (now image) ≡ 8 + 7 * sizesOf (now image) .nets) ⌝ }
+    ensures { λ r. ⌜ r ≡ netAt (now (image .entry)) (sizesOf (now (image .entry)) .nets) i ⌝ }
+{
+    Net {
+        kind: kind_of(image, i),
+        a: operand_of(image, i, 0),
+        b: operand_of(image, i, 1),
+        c: operand_of(image, i, 2),
+    }
 }

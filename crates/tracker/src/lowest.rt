@@ -1,7 +1,7 @@
 // Where a pass over the nets of one kind may start.
 use gates::OUT;
 use gates::REG;
-use netlist::kind_at;
+use netlist::kind_of;
 use netlist::sizes_of;
 ghost use mathlib.Core.Path.{_≡_};
 ghost use mathlib.Core.Option.{none};
@@ -17,7 +17,7 @@ pub fn lowest(image: &[u8], n: usize, kind: u8) -> usize
 {
     let mut i: usize = 0;
     while i < n {
-        if kind_at(image, i) == kind {
+        if kind_of(image, i) == kind {
             return i;
         }
         i += 1;

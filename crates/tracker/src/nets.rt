@@ -3,7 +3,7 @@ use gates::INPUT;
 use gates::NOT;
 use gates::REG;
 use gates::gate_byte;
-use netlist::kind_at;
+use netlist::kind_of;
 use netlist::operand_at;
 ghost use mathlib.Core.Path.{_≡_};
 ghost use mathlib.Core.Option.{none};
@@ -46,7 +46,7 @@ fn net_byte(
     ensures { λ r. ⌜ r .inputs ≡ inputs + cond (eqb (kindAt (now (image .entry)) i) INPUT) 1 0 ⌝ }
     ensures { λ r. ⌜ r .registers ≡ registers + cond (eqb (kindAt (now (image .entry)) i) REG) 1 0 ⌝ }
 {
-    let kind = kind_at(image, i);
+    let kind = kind_of(image, i);
     let a = operand_at(image, n, i, 0);
     if NOT <= kind {
         let b = operand_at(image, n, i, 1);

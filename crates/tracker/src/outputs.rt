@@ -1,6 +1,6 @@
 // The output bytes of a cycle.
 use gates::OUT;
-use netlist::kind_at;
+use netlist::kind_of;
 ghost use mathlib.Core.Path.{_≡_};
 ghost use mathlib.Core.Option.{none};
 ghost use Prim.Native.Nat.{_≤_};
@@ -21,7 +21,7 @@ pub fn write_outputs(image: &[u8], n: usize, from: usize, nets: &[u8], outputs: 
     let mut o: usize = 0;
     let mut i = from;
     while i < n {
-        if kind_at(image, i) == OUT {
+        if kind_of(image, i) == OUT {
             outputs[o] = nets[i];
             o += 1;
         }

@@ -1,6 +1,6 @@
 // The registers of a netlist: their bytes at power-up, and after a clock.
 use gates::REG;
-use netlist::kind_at;
+use netlist::kind_of;
 use netlist::operand_at;
 ghost use mathlib.Core.Path.{_≡_};
 ghost use mathlib.Core.Option.{none};
@@ -32,7 +32,7 @@ pub fn take_starts(image: &[u8], n: usize, state: &mut [u8])
     let mut j: usize = 0;
     let mut i: usize = 0;
     while i < n {
-        if kind_at(image, i) == REG {
+        if kind_of(image, i) == REG {
             state[j] = start_byte(operand_at(image, n, i, 1));
             j += 1;
         }
@@ -50,7 +50,7 @@ pub fn clock(image: &[u8], n: usize, from: usize, nets: &[u8], state: &mut [u8])
     let mut j: usize = 0;
     let mut i = from;
     while i < n {
-        if kind_at(image, i) == REG {
+        if kind_of(image, i) == REG {
             let a = operand_at(image, n, i, 0);
             state[j] = nets[a];
             j += 1;

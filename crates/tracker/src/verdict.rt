@@ -4,7 +4,7 @@ use crate::answer::Verdict;
 use crate::lowest::Bounds;
 use gates::OUT;
 use gates::marked;
-use netlist::kind_at;
+use netlist::kind_of;
 use netlist::operand_at;
 ghost use mathlib.Core.Path.{_≡_};
 ghost use mathlib.Core.Option.{none};
@@ -25,7 +25,7 @@ fn flows(image: &[u8], n: usize, i: usize, nets: &[u8]) -> bool
     requires { ⌜ (i < n) × (length (now image) ≡ 8 + 7 * n) × (length (now nets) ≡ n) ⌝ }
     ensures { λ r. ⌜ r ≡ (eqb (kindAt (now (image .entry)) i) OUT && eqb (operandAt (now (image .entry)) n i 1) 1 && mark (getD (now (nets .entry)) i 0)) ⌝ }
 {
-    if kind_at(image, i) != OUT {
+    if kind_of(image, i) != OUT {
         return false;
     }
     (operand_at(image, n, i, 1) == 1) & marked(nets[i])

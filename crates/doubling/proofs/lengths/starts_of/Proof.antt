@@ -33,29 +33,29 @@ loop-holds : tie.Need-loop-holds Inv-loop μ-loop Inv-loop2 μ-loop2
 loop-holds c = let xs = netsOf (c .before .before .args .image .now) in (omega arith, refl, sym (start-zero xs), summed-begins xs)
 
 -- net i: its kind, and the length of its group
-kind-at-requires : tie.Need-kind-at-requires Inv-loop μ-loop Inv-loop2 μ-loop2
-kind-at-requires c κs =
+kind-of-requires : tie.Need-kind-of-requires Inv-loop μ-loop Inv-loop2 μ-loop2
+kind-of-requires c κs =
     let begin = c .before .before .before .before in
     omega (arith, checked begin .exact, begin .pre .1, c .loop-test .taken)
 
-kind : (c : tie.After-kind-at Inv-loop μ-loop Inv-loop2 μ-loop2) → c .kind-at .result < 9
+kind : (c : tie.After-kind-of Inv-loop μ-loop Inv-loop2 μ-loop2) → c .kind-of .result < 9
 unfolding netAt
 kind c =
     let at = c .before .before in
     let begin = at .before .before .before in
     let most : kindAt (begin .args .image .now) (at .loop .i) ≤ 8 = kind-most (net-passes (checked begin) (begin .pre .1) (at .loop .i) (c .before .loop-test .taken)) in
-    omega (arith, c .kind-at .ensures, most)
+    omega (arith, c .kind-of .ensures, most)
 
-next : (c : tie.After-kind-at Inv-loop μ-loop Inv-loop2 μ-loop2)
+next : (c : tie.After-kind-of Inv-loop μ-loop Inv-loop2 μ-loop2)
     → let at = c .before .before in
-    at .loop .size + getD (at .before .group-lengths .result) (c .kind-at .result) 0 ≡ valueNet (netsOf (at .before .before .before .args .image .now)) (at .loop .i + 1)
+    at .loop .size + getD (at .before .group-lengths .result) (c .kind-of .result) 0 ≡ valueNet (netsOf (at .before .before .before .args .image .now)) (at .loop .i + 1)
 unfolding groupLength
 next c =
     let at = c .before .before in
     let begin = at .before .before .before in
-    rw (at .loop .inv .2, at .before .group-lengths .ensures, c .kind-at .ensures) (sym (next-start (checked begin) (at .loop .i) (begin .pre .1) (c .before .loop-test .taken)))
+    rw (at .loop .inv .2, at .before .group-lengths .ensures, c .kind-of .ensures) (sym (next-start (checked begin) (at .loop .i) (begin .pre .1) (c .before .loop-test .taken)))
 
-room : (c : tie.After-kind-at Inv-loop μ-loop Inv-loop2 μ-loop2) → c .before .before .loop .i + 1 < 8193
+room : (c : tie.After-kind-of Inv-loop μ-loop Inv-loop2 μ-loop2) → c .before .before .loop .i + 1 < 8193
 room c = let begin = c .before .before .before .before .before in omega (arith, c .before .loop-test .taken, begin .pre .1, checked begin .few-nets)
 
 cast-size : tie.Need-cast-size Inv-loop μ-loop Inv-loop2 μ-loop2
@@ -87,7 +87,7 @@ loop-again c =
     let at = c .before .before in
     let inv = at .loop .inv in
     let xs = netsOf (at .before .before .before .args .image .now) in
-    let size = at .loop .size + getD (at .before .group-lengths .result) (c .kind-at .result) 0 in (
+    let size = at .loop .size + getD (at .before .group-lengths .result) (c .kind-of .result) 0 in (
       omega (arith, c .before .loop-test .taken),
       length-set (at .loop .starts) (at .loop .i + 1) size ∙ inv .1,
       next c,
@@ -146,7 +146,7 @@ starts-of-spec =
     μ-loop2
     (λ c κs. search needs)
     loop-holds
-    kind-at-requires
+    kind-of-requires
     cast-size
     mul-size
     array-read-size

@@ -68,6 +68,9 @@ Inv-loop s z n places inputs₀ registers₀ outputs₀ i₀ inputs registers ou
 abbrev μ-loop : tie.MeasureT-loop
 μ-loop s z n places inputs₀ registers₀ outputs₀ i₀ inputs registers outputs i = n - i
 
+nets-are : (c : tie.Start Inv-loop μ-loop) → c .args .z .nets ≡ sizesOf (c .args .s .now) .nets
+nets-are c = ap (λ (z : Sizes). z .nets) (c .pre .0)
+
 loop-holds : tie.Need-loop-holds Inv-loop μ-loop
 loop-holds c =
     let start = c .before .before in
@@ -76,19 +79,25 @@ loop-holds c =
       omega arith,
       omega arith,
       omega arith,
-      rw (nets-left (args .s .now) (args .z .nets) (ap (λ (z : Sizes). z .nets) (start .pre .0))) (begins (args .z .nets) (netsOf (args .s .now))),
+      rw (nets-left (args .s .now) (args .z .nets) (nets-are start)) (begins (args .z .nets) (netsOf (args .s .now))),
     )
 
+net-of-requires : tie.Need-net-of-requires Inv-loop μ-loop
+net-of-requires c κs =
+    let start = c .before .before .before .before in
+    rw (← nets-are start) (c .loop-test .taken, start .pre .1 .1)
+
 -- at the head of a turn, the net is the first of those that are left
-this-net : (c : tie.After-net-at Inv-loop μ-loop)
+this-net : (c : tie.After-net-of Inv-loop μ-loop)
     → let at = c .before .before in
     let args = at .before .before .before .args in
-    Left (args .z .nets) (netsOf (args .s .now)) (c .net-at .result ∷ netsLeft (args .s .now) (args .z .nets) (at .loop .i + 1))
+    Left (args .z .nets) (netsOf (args .s .now)) (c .net-of .result ∷ netsLeft (args .s .now) (args .z .nets) (at .loop .i + 1))
     (at .loop .inputs) (at .loop .registers) (at .loop .outputs) (at .loop .i)
 this-net c =
     let at = c .before .before in
-    let args = at .before .before .before .args in
-    rw (c .net-at .ensures, ← nets-next (args .s .now) (args .z .nets) (at .loop .i) (c .before .loop-test .taken)) (at .loop .inv .4)
+    let start = at .before .before .before in
+    let args = start .args in
+    rw (c .net-of .ensures, ← nets-are start, ← nets-next (args .s .now) (args .z .nets) (at .loop .i) (c .before .loop-test .taken)) (at .loop .inv .4)
 
 check-net-requires : tie.Need-check-net-requires Inv-loop μ-loop
 check-net-requires c κs = c .before .before .before .before .limit-places .ensures
@@ -154,7 +163,7 @@ check-nets-spec =
     μ-loop
     (λ c κs. search needs)
     loop-holds
-    (λ c κs. search needs)
+    net-of-requires
     check-net-requires
     (λ c. search needs)
     returns

@@ -18,7 +18,7 @@ start c = c .before .before .before .before .before .before
 -- A GATE OR OUT
 is-gate : (c : tie.Then1) → let args = start (c .before) .args in 3 ≤ kindAt (args .image .now) (args .i)
 unfolding start
-is-gate c = rw (c .before .before .kind-at .ensures) at (c .if1 .taken)
+is-gate c = rw (c .before .before .kind-of .ensures) at (c .if1 .taken)
 
 pins : (c : tie.Then1)
     → let args = start (c .before) .args in
@@ -59,7 +59,7 @@ gate-byte-requires c κs =
     let readable = pre .1 .1 in
     let size = pre .1 .0 in
     let g = pins taken in
-    rw (taken .before .before .kind-at .ensures, taken .before .operand-at .ensures .0, at .before .operand-at2 .ensures .0, at .operand-at3 .ensures .0)
+    rw (taken .before .before .kind-of .ensures, taken .before .operand-at .ensures .0, at .before .operand-at2 .ensures .0, at .operand-at3 .ensures .0)
     (pre .0, (g .kind, (code-at readable (size .0) (size .2) (g .a), code-at readable (size .0) (size .2) (g .b), code-at readable (size .0) (size .2) (g .c))))
 
 returns : tie.Need-returns
@@ -68,7 +68,7 @@ returns c =
     let at = c .before .before .before .before in
     let taken = at .before .before in
     let pre = start (taken .before) .pre in
-    let byte = rw (taken .before .before .kind-at .ensures, taken .before .operand-at .ensures .0, at .before .operand-at2 .ensures .0, at .operand-at3 .ensures .0) at (c .gate-byte .ensures) in
+    let byte = rw (taken .before .before .kind-of .ensures, taken .before .operand-at .ensures .0, at .before .operand-at2 .ensures .0, at .operand-at3 .ensures .0) at (c .gate-byte .ensures) in
     let args = start (taken .before) .args in
     let k = kindAt (args .image .now) (args .i) in
     let gates : 3 ≤ k = is-gate taken in (
@@ -82,7 +82,7 @@ returns c =
 -- A ROW BYTE, A STATE BYTE, A CONSTANT
 is-input : (c : tie.Then2) → let args = start (c .before .before) .args in kindAt (args .image .now) (args .i) ≡ INPUT
 unfolding start
-is-input c = rw (c .before .before .before .kind-at .ensures) at (c .if2 .taken)
+is-input c = rw (c .before .before .before .kind-of .ensures) at (c .if2 .taken)
 
 input-there : (c : tie.Then2) → let args = start (c .before .before) .args in args .inputs < length (args .row .now)
 unfolding start
@@ -106,7 +106,7 @@ returns-2 c =
 
 is-register : (c : tie.Then3) → let args = start (c .before .before .before) .args in kindAt (args .image .now) (args .i) ≡ REG
 unfolding start
-is-register c = rw (c .before .before .before .before .kind-at .ensures) at (c .if3 .taken)
+is-register c = rw (c .before .before .before .before .kind-of .ensures) at (c .if3 .taken)
 
 register-there : (c : tie.Then3) → let args = start (c .before .before .before) .args in args .registers < length (args .state .now)
 unfolding start
@@ -135,7 +135,7 @@ unfolding start
 is-const c =
     let source = c .before .before in
     let pre = start (source .before) .pre in
-    let kind = source .before .before .kind-at .ensures in
+    let kind = source .before .before .kind-of .ensures in
     is-const-value (pre .1 .1) (pre .1 .0 .0) (pre .1 .0 .2) (rw kind at (source .if1 .left)) (rw kind at (c .before .if2 .left)) (rw kind at (c .if3 .left))
 
 cast-t28 : tie.Need-cast-t28

@@ -47,8 +47,8 @@ loop-holds c =
           (whole-length start),
     )
 
-kind-at-requires : tie.Need-kind-at-requires Inv-loop μ-loop
-kind-at-requires c κs =
+kind-of-requires : tie.Need-kind-of-requires Inv-loop μ-loop
+kind-of-requires c κs =
     let start = c .before .before .before .before .before in
     let h = c .loop-test .taken in
     omega (arith, checked start .exact, start .pre .1 .0 .0)
@@ -66,7 +66,7 @@ this-out c =
     let at = c .before .before .before in
     let args = at .before .before .before .before .args in
     selects (outputs-selected (args .nets .now)) (args .image .now) (args .n) (at .loop .i) (at .loop .inv .1) (c .before .before .loop-test .taken)
-    (sym (c .before .kind-at .ensures) ∙ c .if1 .taken)
+    (sym (c .before .kind-of .ensures) ∙ c .if1 .taken)
 
 shared-slice-read-outputs : tie.Need-shared-slice-read-outputs Inv-loop μ-loop
 shared-slice-read-outputs c =
@@ -90,7 +90,7 @@ loop-again c =
       ⊎-elim
           (λ w. rw (w .2, w .3) (fill-goes-on (this-out (record { before = c .before; if1 = w .0 }))))
           (λ w.
-          let other : kindAt (args .image .now) (at .loop .i) ≡ OUT → ⊥ = λ e. w .0 .left (c .before .kind-at .ensures ∙ e) in
+          let other : kindAt (args .image .now) (at .loop .i) ≡ OUT → ⊥ = λ e. w .0 .left (c .before .kind-of .ensures ∙ e) in
           rw (w .1, w .2) (passes-over (outputs-selected (args .nets .now)) (args .image .now) (args .n) (at .loop .i) (at .loop .inv .1) (turn .loop-test .taken) other))
           (c .if1 .came),
     )
@@ -111,7 +111,7 @@ write-outputs-spec =
     Inv-loop
     μ-loop
     loop-holds
-    kind-at-requires
+    kind-of-requires
     shared-slice-read-outputs
     slice-write-outputs
     add-o

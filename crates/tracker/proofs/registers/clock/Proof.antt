@@ -51,8 +51,8 @@ loop-holds c =
           (whole-length start),
     )
 
-kind-at-requires : tie.Need-kind-at-requires Inv-loop μ-loop
-kind-at-requires c κs =
+kind-of-requires : tie.Need-kind-of-requires Inv-loop μ-loop
+kind-of-requires c κs =
     let start = c .before .before .before .before .before in
     let h = c .loop-test .taken in
     omega (arith, checked start .exact, start .pre .1 .0 .0)
@@ -60,7 +60,7 @@ kind-at-requires c κs =
 is-register : (c : tie.Then1 Inv-loop μ-loop)
     → let at = c .before .before .before in
     kindAt (at .before .before .before .before .args .image .now) (at .loop .i) ≡ REG
-is-register c = sym (c .before .kind-at .ensures) ∙ c .if1 .taken
+is-register c = sym (c .before .kind-of .ensures) ∙ c .if1 .taken
 
 -- a register: its byte is the next to write
 this-register : (c : tie.Then1 Inv-loop μ-loop)
@@ -112,7 +112,7 @@ loop-again c =
       ⊎-elim
           (λ w. rw (w .3, w .4, w .1 .ensures .0) (fill-goes-on (this-register (record { before = c .before; if1 = w .0 }))))
           (λ w.
-          let other : kindAt s (at .loop .i) ≡ REG → ⊥ = λ e. w .0 .left (c .before .kind-at .ensures ∙ e) in
+          let other : kindAt s (at .loop .i) ≡ REG → ⊥ = λ e. w .0 .left (c .before .kind-of .ensures ∙ e) in
           rw (w .1, w .2) (passes-over (registers-selected (taken (args .nets .now))) s (args .n) (at .loop .i) (at .loop .inv .1) (turn .loop-test .taken) other))
           (c .if1 .came),
     )
@@ -134,7 +134,7 @@ clock-spec =
     Inv-loop
     μ-loop
     loop-holds
-    kind-at-requires
+    kind-of-requires
     operand-at-requires
     shared-slice-read-state
     slice-write-state

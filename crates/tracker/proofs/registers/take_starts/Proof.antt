@@ -40,8 +40,8 @@ loop-holds c =
     let begin = c .before .before in
     (omega arith, fill-begins (rw (nets-left (begin .args .image .now) (begin .args .n) (begin .pre .1 .0))) (whole-length begin))
 
-kind-at-requires : tie.Need-kind-at-requires Inv-loop μ-loop
-kind-at-requires c κs =
+kind-of-requires : tie.Need-kind-of-requires Inv-loop μ-loop
+kind-of-requires c κs =
     let begin = c .before .before .before .before in
     let h = c .loop-test .taken in
     omega (arith, checked begin .exact, begin .pre .1 .0)
@@ -64,7 +64,7 @@ this-register c =
     let at = c .before .before .before in
     let args = at .before .before .before .args in
     selects (registers-selected taken) (args .image .now) (args .n) (at .loop .i) (at .loop .inv .1) (c .before .before .loop-test .taken)
-    (sym (c .before .kind-at .ensures) ∙ c .if1 .taken)
+    (sym (c .before .kind-of .ensures) ∙ c .if1 .taken)
 
 slice-write-state : tie.Need-slice-write-state Inv-loop μ-loop
 slice-write-state c = fill-room (this-register (c .before .before))
@@ -85,7 +85,7 @@ loop-again c =
       ⊎-elim
           (λ w. rw (w .3, w .4, w .2 .ensures, w .1 .ensures .0) (fill-goes-on (this-register (record { before = c .before; if1 = w .0 }))))
           (λ w.
-          let other : kindAt s (at .loop .i) ≡ REG → ⊥ = λ e. w .0 .left (c .before .kind-at .ensures ∙ e) in
+          let other : kindAt s (at .loop .i) ≡ REG → ⊥ = λ e. w .0 .left (c .before .kind-of .ensures ∙ e) in
           rw (w .1, w .2) (passes-over (registers-selected taken) s (args .n) (at .loop .i) (at .loop .inv .1) (turn .loop-test .taken) other))
           (c .if1 .came),
     )
@@ -107,7 +107,7 @@ take-starts-spec =
     Inv-loop
     μ-loop
     loop-holds
-    kind-at-requires
+    kind-of-requires
     operand-at-requires
     (λ c κs. search needs)
     slice-write-state

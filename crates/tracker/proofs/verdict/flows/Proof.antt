@@ -5,13 +5,13 @@ use Rattle.tracker.proofs.verdict.flows.Statement.{statement}
 use Rattle.tracker.proofs.verdict.flows.Tie as tie
 
 returns : tie.Need-returns
-returns c = rw (← (c .before .kind-at .ensures), ne-eqb _ 8 (c .if1 .taken))
+returns c = rw (← (c .before .kind-of .ensures), ne-eqb _ 8 (c .if1 .taken))
 
 returns-2 : tie.Need-returns-2
 returns-2 c =
     let at = c .before .before in
     let kind = at .before .before in
-    rw (← (kind .kind-at .ensures), eq-eqb _ 8 (at .before .if1 .left), ← (at .operand-at .ensures .0), ← (c .marked .ensures))
+    rw (← (kind .kind-of .ensures), eq-eqb _ 8 (at .before .if1 .left), ← (at .operand-at .ensures .0), ← (c .marked .ensures))
 
 pub flows-spec : {M : Type 1} → statement M
 flows-spec =
