@@ -5,7 +5,7 @@ use crate::lowest::Bounds;
 use gates::OUT;
 use gates::marked;
 use netlist::kind_of;
-use netlist::operand_at;
+use netlist::operand_of;
 ghost use mathlib.Core.Path.{_≡_};
 ghost use mathlib.Core.Option.{none};
 ghost use mathlib.Core.Bool.{_&&_};
@@ -21,14 +21,14 @@ ghost use Rattle.tracker.specs.Cycle.{verdictFrom, firstOf};
 ghost use Rattle.tracker.specs.Passes.{NoneBelow, Bounded};
 
 // Whether net i is a protected OUT with mark 1.
-fn flows(image: &[u8], n: usize, i: usize, nets: &[u8]) -> bool
-    requires { ⌜ (i < n) × (length (now image) ≡ 8 + 7 * n) × (length (now nets) ≡ n) ⌝ }
-    ensures { λ r. ⌜ r ≡ (eqb (kindAt (now (image .entry)) i) OUT && eqb (operandAt (now (image .entry)) n i 1) 1 && mark (getD (now (nets .entry)) i 0)) ⌝ }
+fn flows(image: &[u8], i: usize, nets: &[u8]) -> bool
+    requires { ⌜ (i < sizesOf (now image) .nets) × (length (now image) ≡ 8 + 7 * sizesOf (now image) .nets) × (i < length (now nets)) ⌝ }
+    ensures { λ r. ⌜ r ≡ (eqb (kindAt (now (image .entry)) i) OUT && eqb (operandAt (now (image .entry)) (sizesOf (now (image .entry)) .nets) i 1) 1 && mark (getD (now (nets .entry)) i 0)) ⌝ }
 {
     if kind_of(image, i) != OUT {
         return false;
     }
-    (operand_at(image, n, i, 1) == 1) & marked(nets[i])
+    (operand_of(image, i, 1) == 1) & marked(nets[i])
 }
 
 // A flow at the lowest-numbered protected OUT with mark 1, or clear. No OUT stands below net `from`.
@@ -43,7 +43,7 @@ pub fn verdict_of(image: &[u8], n: usize, from: usize, nets: &[u8]) -> Verdict
         if n <= i {
             break Verdict::Clear;
         }
-        if flows(image, n, i, nets) {
+        if flows(image, i, nets) {
             break Verdict::Flow(i);
         }
         i += 1;

@@ -11,7 +11,7 @@ returns-2 : tie.Need-returns-2
 returns-2 c =
     let at = c .before .before in
     let kind = at .before .before in
-    rw (← (kind .kind-of .ensures), eq-eqb _ 8 (at .before .if1 .left), ← (at .operand-at .ensures .0), ← (c .marked .ensures))
+    rw (← (kind .kind-of .ensures), eq-eqb _ 8 (at .before .if1 .left), ← (at .operand-of .ensures .0), ← (c .marked .ensures))
 
 pub flows-spec : {M : Type 1} → statement M
 flows-spec =

@@ -36,7 +36,7 @@ flows-requires : tie.Need-flows-requires Inv-loop μ-loop
 flows-requires c κs =
     let pre = c .before .before .before .before .pre in
     let size = pre .1 .0 in
-    (c .if1 .left, rw (size .0) (check-none _ .0 (pre .0) .exact), size .1)
+    (rw (← size .0) (c .if1 .left), check-none _ .0 (pre .0) .exact, rw (size .1) (c .if1 .left))
 
 -- the net at hand decides, or leaves the verdict to the nets above
 this-net : (s : List ℕ) (n i : ℕ) (bs : List ℕ) → i < n
@@ -54,8 +54,9 @@ left : (c : tie.After-flows Inv-loop μ-loop)
     ≡ cond (c .flows .result) (flow i) (verdictFrom (i + 1) (netsLeft (args .image .now) (args .n) (i + 1)) (args .nets .now))
 left c =
     let at = c .before .before in
-    let args = at .before .before .before .args in
-    rw (c .flows .ensures) (at .loop .inv .1 ∙ this-net (args .image .now) (args .n) (at .loop .i) (args .nets .now) (c .before .if1 .left))
+    let start = at .before .before .before in
+    let args = start .args in
+    rw (c .flows .ensures, ← start .pre .1 .0 .0) (at .loop .inv .1 ∙ this-net (args .image .now) (args .n) (at .loop .i) (args .nets .now) (c .before .if1 .left))
 
 loop-again : tie.Need-loop-again Inv-loop μ-loop
 loop-again c = (omega arith, rw (c .if2 .left) at (left (c .before)))
