@@ -1,4 +1,4 @@
-//! Instructions for each net and cycle, counted by valgrind where it is there.
+//! Instructions for each net and cycle of a run, counted by valgrind where it is there.
 //!
 //! This program starts itself under valgrind with the mode `count`, which makes
 //! one run of a case. Two runs differ only in their cycles, so the difference of
@@ -33,22 +33,18 @@ pub fn valgrind_is_there() -> bool {
 
 /// The instructions of a peer for each net and cycle of a case.
 pub fn instructions(case: usize, peer: Peer) -> Option<f64> {
-    let few = counted(case, peer, FEW)?;
-    let many = counted(case, peer, MANY)?;
+    let of = |k: usize| counted(&["count", &case.to_string(), peer.name, &k.to_string()]);
     let Case { nets, .. } = CASES[case];
-    Some((many - few) / (nets * (MANY - FEW)) as f64)
+    Some((of(MANY)? - of(FEW)?) / (nets * (MANY - FEW)) as f64)
 }
 
-/// The instructions of one run of this program.
-fn counted(case: usize, peer: Peer, k: usize) -> Option<f64> {
+/// The instructions of this program with some arguments.
+pub fn counted(arguments: &[&str]) -> Option<f64> {
     let output = Command::new("valgrind")
         .arg("--tool=callgrind")
         .arg("--callgrind-out-file=/dev/null")
         .arg(env::current_exe().ok()?)
-        .arg("count")
-        .arg(case.to_string())
-        .arg(peer.name)
-        .arg(k.to_string())
+        .args(arguments)
         .output()
         .ok()?;
     let text = String::from_utf8_lossy(&output.stderr).into_owned();

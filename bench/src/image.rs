@@ -1,6 +1,8 @@
 //! The layout of the image: four u16 sizes, N kind bytes, and N entries of
 //! three u16 operands, low byte first.
 
+use tracker::GROUP_LENGTHS;
+
 pub const CONST: u8 = 0;
 pub const INPUT: u8 = 1;
 pub const REG: u8 = 2;
@@ -91,4 +93,10 @@ pub fn image_of(nets: &[Net]) -> Vec<u8> {
         }
     }
     image
+}
+
+/// The nets of the doubled netlist of an accepted image.
+pub fn doubled_nets(image: &[u8]) -> usize {
+    let kinds = &image[HEAD..][..sizes_of(image).nets];
+    kinds.iter().map(|&kind| GROUP_LENGTHS[usize::from(kind)]).sum()
 }

@@ -5,16 +5,13 @@ use std::time::Instant;
 
 use crate::aligned::{cells, print};
 use crate::generate::{image, Mix};
-use crate::image::HEAD;
+use crate::image::doubled_nets;
 use crate::rounds::{lowest, median};
-use tracker::ffi;
+use tracker::{ffi, image_length};
 
 /// The source nets. The doubled netlist has to stay within 8,192 nets.
 const CHECKED: [usize; 4] = [1024, 2048, 4096, 8192];
 const DOUBLED: [usize; 4] = [250, 500, 1000, 2000];
-
-/// The lengths of groups of the doubled netlist, by kind.
-const LENGTHS: [usize; 9] = [2, 2, 2, 2, 6, 8, 2, 7, 2];
 
 /// The seed of the netlists.
 const SEED: u64 = 3;
@@ -35,13 +32,12 @@ struct Size {
 /// The bytes of a netlist of n nets.
 fn size(nets: usize) -> Size {
     let image = image(Mix::Equal, nets, SEED, true);
-    let kinds = &image[HEAD..HEAD + nets];
-    let doubled: usize = kinds.iter().map(|kind| LENGTHS[usize::from(*kind)]).sum();
+    let doubled = doubled_nets(&image);
     Size {
         nets,
         doubled,
         image,
-        buffer: vec![0; HEAD + 7 * doubled],
+        buffer: vec![0; image_length(doubled)],
     }
 }
 

@@ -1,12 +1,14 @@
 //! Measurements of the tracker's static library.
 //!
 //! Without arguments: all tables. `forms`: a table of the forms that the best
-//! peer was chosen from. `count CASE PEER CYCLES`: one run, for valgrind.
+//! peer was chosen from. `count CASE PEER CYCLES`: one run, for valgrind. `calls`:
+//! the instructions of each call. `call NAME TIMES`: some calls, for valgrind.
 //! `netlist MIX NETS SEED CYCLES FOLDER`: files for the hardware tools.
 
 mod agree;
 mod aligned;
 mod call;
+mod calls;
 mod cases;
 mod check;
 mod count;
@@ -35,7 +37,7 @@ use hardware::write_files;
 use peers::PEERS;
 
 const USAGE: &str =
-    "usage: bench [forms | count CASE PEER CYCLES | netlist MIX NETS SEED CYCLES FOLDER]";
+    "usage: bench [forms | calls | count CASE PEER CYCLES | call NAME TIMES | netlist MIX NETS SEED CYCLES FOLDER]";
 
 /// How often each peer is timed on each case.
 const ROUNDS: usize = 11;
@@ -46,6 +48,8 @@ fn main() {
     match words[..] {
         [] => all(),
         ["forms"] => forms(),
+        ["calls"] => calls::print_instructions(),
+        ["call", name, times] => calls::some_calls(name, number(times)),
         ["count", case, peer, k] => count::one_run(number(case), peer, number(k)),
         ["netlist", mix, nets, seed, k, folder] => {
             let (nets, seed, k) = (number(nets), number(seed), number(k));
@@ -65,6 +69,7 @@ fn all() {
         running::print_times(case, &PEERS, ROUNDS);
     }
     running::print_instructions(&PEERS);
+    calls::print_instructions();
     linear::print_checking();
     linear::print_doubling();
 }

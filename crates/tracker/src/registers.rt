@@ -1,7 +1,7 @@
 // The registers of a netlist: their bytes at power-up, and after a clock.
 use gates::REG;
 use netlist::kind_of;
-use netlist::operand_at;
+use netlist::operand_of;
 ghost use mathlib.Core.Path.{_≡_};
 ghost use mathlib.Core.Option.{none};
 ghost use Prim.Native.Nat.{_≤_};
@@ -33,7 +33,7 @@ pub fn take_starts(image: &[u8], n: usize, state: &mut [u8])
     let mut i: usize = 0;
     while i < n {
         if kind_of(image, i) == REG {
-            state[j] = start_byte(operand_at(image, n, i, 1));
+            state[j] = start_byte(operand_of(image, i, 1));
             j += 1;
         }
         i += 1;
@@ -51,7 +51,7 @@ pub fn clock(image: &[u8], n: usize, from: usize, nets: &[u8], state: &mut [u8])
     let mut i = from;
     while i < n {
         if kind_of(image, i) == REG {
-            let a = operand_at(image, n, i, 0);
+            let a = operand_of(image, i, 0);
             state[j] = nets[a];
             j += 1;
         }

@@ -79,11 +79,11 @@ this-register c =
     selects (registers-selected (taken (args .nets .now))) (args .image .now) (args .n) (at .loop .i) (at .loop .inv .1) (c .before .before .loop-test .taken)
     (is-register c)
 
-operand-at-requires : tie.Need-operand-at-requires Inv-loop μ-loop
-operand-at-requires c κs =
+operand-of-requires : tie.Need-operand-of-requires Inv-loop μ-loop
+operand-of-requires c κs =
     let turn = c .before .before in
     let start = turn .before .before .before .before .before in
-    (turn .loop-test .taken, omega arith, rw (start .pre .1 .0 .0) (checked start .exact))
+    (rw (← start .pre .1 .0 .0) (turn .loop-test .taken), omega arith, checked start .exact)
 
 shared-slice-read-state : tie.Need-shared-slice-read-state Inv-loop μ-loop
 shared-slice-read-state c =
@@ -91,7 +91,7 @@ shared-slice-read-state c =
     let turn = read .before .before .before in
     let start = turn .before .before .before .before .before in
     let size = start .pre .1 .0 in
-    rw (read .operand-at .ensures .0, size .1) (pin-below (checked start) (size .0) _ (turn .loop-test .taken) (is-register (read .before)))
+    rw (read .operand-of .ensures .0, ← size .0, size .1) (pin-below (checked start) (size .0) _ (turn .loop-test .taken) (is-register (read .before)))
 
 slice-write-state : tie.Need-slice-write-state Inv-loop μ-loop
 slice-write-state c = fill-room (this-register (c .before .before))
@@ -106,11 +106,12 @@ loop-again : tie.Need-loop-again Inv-loop μ-loop
 loop-again c =
     let turn = c .before .before in
     let at = turn .before in
-    let args = at .before .before .before .before .args in
+    let start = at .before .before .before .before in
+    let args = start .args in
     let s = args .image .now in (
       omega (arith, turn .loop-test .taken),
       ⊎-elim
-          (λ w. rw (w .3, w .4, w .1 .ensures .0) (fill-goes-on (this-register (record { before = c .before; if1 = w .0 }))))
+          (λ w. rw (w .3, w .4, w .1 .ensures .0, ← start .pre .1 .0 .0) (fill-goes-on (this-register (record { before = c .before; if1 = w .0 }))))
           (λ w.
           let other : kindAt s (at .loop .i) ≡ REG → ⊥ = λ e. w .0 .left (c .before .kind-of .ensures ∙ e) in
           rw (w .1, w .2) (passes-over (registers-selected (taken (args .nets .now))) s (args .n) (at .loop .i) (at .loop .inv .1) (turn .loop-test .taken) other))
@@ -135,7 +136,7 @@ clock-spec =
     μ-loop
     loop-holds
     kind-of-requires
-    operand-at-requires
+    operand-of-requires
     shared-slice-read-state
     slice-write-state
     add-j

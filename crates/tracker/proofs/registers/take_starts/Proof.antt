@@ -46,11 +46,11 @@ kind-of-requires c κs =
     let h = c .loop-test .taken in
     omega (arith, checked begin .exact, begin .pre .1 .0)
 
-operand-at-requires : tie.Need-operand-at-requires Inv-loop μ-loop
-operand-at-requires c κs =
+operand-of-requires : tie.Need-operand-of-requires Inv-loop μ-loop
+operand-of-requires c κs =
     let turn = c .before .before in
     let begin = turn .before .before .before .before in
-    (turn .loop-test .taken, omega arith, rw (begin .pre .1 .0) (checked begin .exact))
+    (rw (← begin .pre .1 .0) (turn .loop-test .taken), omega arith, checked begin .exact)
 
 -- a register: its byte is the next to write
 this-register : (c : tie.Then1 Inv-loop μ-loop)
@@ -79,11 +79,12 @@ loop-again : tie.Need-loop-again Inv-loop μ-loop
 loop-again c =
     let turn = c .before .before in
     let at = turn .before in
-    let args = at .before .before .before .args in
+    let begin = at .before .before .before in
+    let args = begin .args in
     let s = args .image .now in (
       omega (arith, turn .loop-test .taken),
       ⊎-elim
-          (λ w. rw (w .3, w .4, w .2 .ensures, w .1 .ensures .0) (fill-goes-on (this-register (record { before = c .before; if1 = w .0 }))))
+          (λ w. rw (w .3, w .4, w .2 .ensures, w .1 .ensures .0, ← begin .pre .1 .0) (fill-goes-on (this-register (record { before = c .before; if1 = w .0 }))))
           (λ w.
           let other : kindAt s (at .loop .i) ≡ REG → ⊥ = λ e. w .0 .left (c .before .kind-of .ensures ∙ e) in
           rw (w .1, w .2) (passes-over (registers-selected taken) s (args .n) (at .loop .i) (at .loop .inv .1) (turn .loop-test .taken) other))
@@ -108,7 +109,7 @@ take-starts-spec =
     μ-loop
     loop-holds
     kind-of-requires
-    operand-at-requires
+    operand-of-requires
     (λ c κs. search needs)
     slice-write-state
     add-j
