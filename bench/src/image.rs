@@ -98,5 +98,8 @@ pub fn image_of(nets: &[Net]) -> Vec<u8> {
 /// The nets of the doubled netlist of an accepted image.
 pub fn doubled_nets(image: &[u8]) -> usize {
     let kinds = &image[HEAD..][..sizes_of(image).nets];
-    kinds.iter().map(|&kind| GROUP_LENGTHS[usize::from(kind)]).sum()
+    kinds
+        .iter()
+        .map(|&kind| GROUP_LENGTHS[usize::from(kind)])
+        .sum()
 }
