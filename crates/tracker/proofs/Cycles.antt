@@ -1,21 +1,21 @@
 -- Cycles on related rows and states: a relation of bytes that the gates keep holds of every byte that comes of them.
--- Its instances: agreement, the order by marks, plain values, and codes.
+-- Its instances: agreement, and codes.
 use Prim.Native.Nat.{ℕ, zero, suc, _+_, _≤_}
 use native.Mathlib.Omega.{arith}
 use mathlib.Core.Path.{_≡_, refl}
 use mathlib.Core.List.{List, [], _∷_, Forall₂, Forall₂·nil, Forall₂·cons}
-use mathlib.Core.Bool.{Bool, true, false, _&&_, cond}
+use mathlib.Core.Bool.{Bool, true, false, cond}
 use lib.Dec.{eqb, lit≤}
 use lib.ListN.{length, getD}
-use Rattle.gates.specs.Rules.{mark, gateByte}
-use Rattle.gates.specs.Relations.{AgreeByte, same, Agree, BelowByte, equal, Below}
-use Rattle.gates.proofs.Laws.{cond-related, gates-agree, agree-mark, gates-monotone, below-mark, Plain, gates-plain, Code, gates-code}
+use Rattle.gates.specs.Rules.{gateByte}
+use Rattle.gates.specs.Relations.{AgreeByte, same, Agree}
+use Rattle.gates.proofs.Laws.{cond-related, gates-agree, agree-mark, Code, gates-code}
 use Rattle.netlist.specs.declared.image.Net.{Net}
 use Rattle.netlist.specs.Image.{count}
 use Rattle.netlist.proofs.Pairs.{pairs-append, pairs-getD, pairs-take, pairs-drop}
 use Rattle.netlist.proofs.Refusals.{Codes}
 use Rattle.netlist.proofs.Checked.{Passes, is-const, is-input, is-reg, is-not, is-and, is-or, is-xor, is-mux, is-out, AllPass, nil, cons}
-use Rattle.tracker.specs.Cycle.{Rule, Walk, pinByte, netByte, past, walk, bytesOf, Verdict, clear, flow, verdictFrom, outputsFrom, registers, clocked, Cycle, cycleOf, cyclesOf, outputsOf, stateAfter}
+use Rattle.tracker.specs.Cycle.{Rule, Walk, pinByte, netByte, past, walk, bytesOf, Verdict, verdictFrom, outputsFrom, registers, clocked, Cycle, cycleOf, cyclesOf, outputsOf, stateAfter}
 
 -- a relation of bytes that a rule keeps
 pub record Kept (R : ℕ → ℕ → Type 0) (rule : Rule) : Type 0 where
@@ -151,41 +151,6 @@ module _ {n : ℕ} {xs : List Net} (ps : AllPass n 0 xs) where
   pub agree-cycles : (i k : ℕ) {rows rows′ st st′ : List ℕ} → Agree rows rows′ → Agree st st′
       → Forall₂ (Related AgreeByte _≡_) (cyclesOf xs i k rows st) (cyclesOf xs i k rows′ st′)
   agree-cycles = cycles-related agree-kept agree-verdict ps
-
--- THE ORDER BY MARKS: fewer marks in, fewer marks out, and a flow only where there was one
-pub record Clearer (v w : Verdict) : Type 0 where
-  pub clearer : w ≡ clear → v ≡ clear
-
-clearer-cond : (i : ℕ) (t u : Bool) {v w : Verdict} → (u ≡ false → t ≡ false) → Clearer v w → Clearer (cond t (flow i) v) (cond u (flow i) w)
-clearer-cond i true true h k = record { clearer = λ e. e }
-clearer-cond i true false h k = let e = h refl in record { clearer = λ f. cc }
-clearer-cond i false true h k = record { clearer = λ e. cc }
-clearer-cond i false false h k = k
-
-and-below : (p t u : Bool) → (u ≡ false → t ≡ false) → (p && u) ≡ false → (p && t) ≡ false
-and-below true t u h e = h e
-and-below false t u h e = refl
-
-below-kept : Kept BelowByte gateByte
-below-kept = record { const = λ a h. equal; gate = gates-monotone }
-
-below-verdict : Judged BelowByte Clearer
-unfolding verdictFrom
-below-verdict i [] bs cs h = record { clearer = λ e. refl }
-below-verdict i (x ∷ xs) bs cs h =
-    clearer-cond i (eqb (x .kind) 8 && eqb (x .b) 1 && mark (getD bs i 0)) (eqb (x .kind) 8 && eqb (x .b) 1 && mark (getD cs i 0))
-    (and-below (eqb (x .kind) 8 && eqb (x .b) 1) (mark (getD bs i 0)) (mark (getD cs i 0)) (below-mark (pairs-getD i 0 equal h)))
-    (below-verdict (suc i) xs bs cs h)
-
-pub below-cycles : {n : ℕ} {xs : List Net} → AllPass n 0 xs → (i k : ℕ) {rows rows′ st st′ : List ℕ} → Below rows rows′ → Below st st′
-    → Forall₂ (Related BelowByte Clearer) (cyclesOf xs i k rows st) (cyclesOf xs i k rows′ st′)
-below-cycles ps = cycles-related below-kept below-verdict ps
-
--- PLAIN VALUES do not depend on marks
-pub plain-cycles : {n : ℕ} {xs : List Net} → AllPass n 0 xs → (i k : ℕ) {rows rows′ st st′ : List ℕ} → Forall₂ Plain rows rows′ → Forall₂ Plain st st′
-    → Forall₂ (Related Plain (λ v w. Unit {0})) (cyclesOf xs i k rows st) (cyclesOf xs i k rows′ st′)
-plain-cycles ps =
-    cycles-related {Q = λ v w. Unit {0}} (record { const = λ a h. record { plain = refl }; gate = gates-plain }) (λ i xs bs cs h. tt) ps
 
 -- CODES: a cycle's bytes are 0 to 3 where its row's and its state's are
 pub code-kept : Kept Code gateByte
