@@ -12,30 +12,26 @@ use Rattle.tracker.proofs.nets.net_byte.Statement.{statement}
 use Rattle.tracker.proofs.nets.net_byte.Tie as tie
 
 -- where the kind and operand a are read
-start : tie.After-operand-at → tie.Start
+abbrev start : tie.After-operand-at → tie.Start
 start c = c .before .before .before .before .before .before
 
 -- A GATE OR OUT
 is-gate : (c : tie.Then1) → let args = start (c .before) .args in 3 ≤ kindAt (args .image .now) (args .i)
-unfolding start
 is-gate c = rw (c .before .before .kind-at .ensures) at (c .if1 .taken)
 
 pins : (c : tie.Then1)
     → let args = start (c .before) .args in
     let s = args .image .now in
     Gate (args .i) (net (kindAt s (args .i)) (operandAt s (args .n) (args .i) 0) (operandAt s (args .n) (args .i) 1) (operandAt s (args .n) (args .i) 2))
-unfolding start
 pins c = let pre = start (c .before) .pre in gate (pre .1 .1) (pre .1 .0 .0) (pre .1 .0 .2) (is-gate c)
 
 shared-slice-read-gate-byte : tie.Need-shared-slice-read-gate-byte
-unfolding start
 shared-slice-read-gate-byte c =
     let taken = c .before .before .before in
     let pre = start (taken .before) .pre in
     rw (taken .before .operand-at .ensures .0, pre .1 .0 .2) (in-range (pre .1 .1) (pre .1 .0 .0) (pre .1 .0 .2) (pins taken .a))
 
 shared-slice-read-gate-byte-2 : tie.Need-shared-slice-read-gate-byte-2
-unfolding start
 shared-slice-read-gate-byte-2 c =
     let at = c .before .before .before in
     let taken = at .before in
@@ -43,7 +39,6 @@ shared-slice-read-gate-byte-2 c =
     rw (at .operand-at2 .ensures .0, pre .1 .0 .2) (in-range (pre .1 .1) (pre .1 .0 .0) (pre .1 .0 .2) (pins taken .b))
 
 shared-slice-read-gate-byte-3 : tie.Need-shared-slice-read-gate-byte-3
-unfolding start
 shared-slice-read-gate-byte-3 c =
     let at = c .before .before .before in
     let taken = at .before .before in
@@ -51,7 +46,6 @@ shared-slice-read-gate-byte-3 c =
     rw (at .operand-at3 .ensures .0, pre .1 .0 .2) (in-range (pre .1 .1) (pre .1 .0 .0) (pre .1 .0 .2) (pins taken .c))
 
 gate-byte-requires : tie.Need-gate-byte-requires
-unfolding start
 gate-byte-requires c κs =
     let at = c .before .before .before in
     let taken = at .before .before in
@@ -63,7 +57,6 @@ gate-byte-requires c κs =
     (pre .0, (g .kind, (code-at readable (size .0) (size .2) (g .a), code-at readable (size .0) (size .2) (g .b), code-at readable (size .0) (size .2) (g .c))))
 
 returns : tie.Need-returns
-unfolding start
 returns c =
     let at = c .before .before .before .before in
     let taken = at .before .before in
@@ -81,23 +74,18 @@ returns c =
 
 -- A ROW BYTE, A STATE BYTE, A CONSTANT
 is-input : (c : tie.Then2) → let args = start (c .before .before) .args in kindAt (args .image .now) (args .i) ≡ INPUT
-unfolding start
 is-input c = rw (c .before .before .before .kind-at .ensures) at (c .if2 .taken)
 
 input-there : (c : tie.Then2) → let args = start (c .before .before) .args in args .inputs < length (args .row .now)
-unfolding start
 input-there c = start (c .before .before) .pre .1 .1 .input (is-input c)
 
 shared-slice-read-t23 : tie.Need-shared-slice-read-t23
-unfolding start
 shared-slice-read-t23 c = input-there (c .before)
 
 add-t24 : tie.Need-add-t24
-unfolding start
 add-t24 c = omega (arith, input-there (c .before))
 
 returns-2 : tie.Need-returns-2
-unfolding start
 returns-2 c =
     let taken = c .before in
     let pre = start (taken .before .before) .pre in
@@ -105,23 +93,18 @@ returns-2 c =
     (sym (input-byte (pre .1 .1) (pre .1 .0 .0) (pre .1 .0 .2) e), (rw e (omega arith), rw e (omega arith)))
 
 is-register : (c : tie.Then3) → let args = start (c .before .before .before) .args in kindAt (args .image .now) (args .i) ≡ REG
-unfolding start
 is-register c = rw (c .before .before .before .before .kind-at .ensures) at (c .if3 .taken)
 
 register-there : (c : tie.Then3) → let args = start (c .before .before .before) .args in args .registers < length (args .state .now)
-unfolding start
 register-there c = start (c .before .before .before) .pre .1 .1 .register (is-register c)
 
 shared-slice-read-t26 : tie.Need-shared-slice-read-t26
-unfolding start
 shared-slice-read-t26 c = register-there (c .before)
 
 add-t27 : tie.Need-add-t27
-unfolding start
 add-t27 c = omega (arith, register-there (c .before))
 
 returns-3 : tie.Need-returns-3
-unfolding start
 returns-3 c =
     let taken = c .before in
     let pre = start (taken .before .before .before) .pre in
@@ -131,7 +114,6 @@ returns-3 c =
 is-const : (c : tie.Else3)
     → let args = start (c .before .before .before) .args in
     (kindAt (args .image .now) (args .i) ≡ CONST) × (operandAt (args .image .now) (args .n) (args .i) 0 ≤ 1)
-unfolding start
 is-const c =
     let source = c .before .before in
     let pre = start (source .before) .pre in
@@ -139,11 +121,9 @@ is-const c =
     is-const-value (pre .1 .1) (pre .1 .0 .0) (pre .1 .0 .2) (rw kind at (source .if1 .left)) (rw kind at (c .before .if2 .left)) (rw kind at (c .if3 .left))
 
 cast-t28 : tie.Need-cast-t28
-unfolding start
 cast-t28 c = let small = is-const c .1 in rw (c .before .before .before .operand-at .ensures .0) (omega arith)
 
 returns-4 : tie.Need-returns-4
-unfolding start
 returns-4 c =
     let read = c .before .before .before in
     let pre = start read .pre in
