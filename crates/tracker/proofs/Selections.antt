@@ -1,8 +1,9 @@
--- A list with a byte for each net of one kind, in net order from some net on: its length, and two such lists related place by place.
+-- A list with a byte for each net of one kind, in net order from some net on: its length, its parts, and two such lists related place by place.
 use Prim.Native.Nat.{ℕ, suc, _+_}
+use native.Mathlib.Nat.{add-zero}
 use native.Mathlib.Omega.{arith}
 use mathlib.Core.Path.{_≡_, refl}
-use mathlib.Core.List.{List, [], _∷_, Forall₂, Forall₂·nil, Forall₂·cons}
+use mathlib.Core.List.{List, [], _∷_, _++_, Forall₂, Forall₂·nil, Forall₂·cons}
 use mathlib.Core.Bool.{Bool, true, false, cond}
 use lib.Dec.{eqb}
 use lib.ListN.{length, getD}
@@ -34,6 +35,19 @@ pub selection-length : {k : ℕ} {list : ℕ → List Net → List ℕ} {byte : 
 unfolding count
 selection-length s i [] = rw (s .none i)
 selection-length {k} s i (x ∷ xs) = rw (s .next i x xs) (one-more (eqb (x .kind) k) _ _ (selection-length s (suc i) xs))
+
+-- part by part
+cond-append : (c : Bool) (xs ys zs : List ℕ) → cond c (xs ++ zs) (ys ++ zs) ≡ cond c xs ys ++ zs
+cond-append true xs ys zs = refl
+cond-append false xs ys zs = refl
+
+pub selection-append : {k : ℕ} {list : ℕ → List Net → List ℕ} {byte : ℕ → Net → ℕ} → Selection k list byte
+    → (i : ℕ) (xs ys : List Net) → list i (xs ++ ys) ≡ list i xs ++ list (i + length xs) ys
+selection-append s i [] ys = rw (s .none i, add-zero)
+selection-append {k} {list} {byte} s i (x ∷ xs) ys =
+    let e : i + suc (length xs) ≡ suc i + length xs = omega arith in
+    rw (s .next i x (xs ++ ys), s .next i x xs, selection-append s (suc i) xs ys, e)
+    (cond-append (eqb (x .kind) k) (byte i x ∷ list (suc i) xs) (list (suc i) xs) _)
 
 -- of related bytes
 pub selections-related : (R : ℕ → ℕ → Type 0) {k : ℕ} {l l′ : ℕ → List Net → List ℕ} {b b′ : ℕ → Net → ℕ}
