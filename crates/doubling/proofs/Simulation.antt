@@ -53,16 +53,13 @@ split-drop (suc n) (x ∷ l) = rw (two-more n) (split-drop n l)
 split-rest : (l : List ℕ) → drop 1 (drop 1 (split l)) ≡ split (drop 1 l)
 split-rest l = drop-drop 1 1 (split l) ∙ split-drop 1 l
 
-codes-split : {xs ys : List ℕ} → Forall₂ Code xs ys → Forall₂ Code (split xs) (split ys)
+pub split-codes : {xs ys : List ℕ} → Forall₂ Code xs ys → Forall₂ Code (split xs) (split ys)
 unfolding split
-codes-split Forall₂·nil = Forall₂·nil
-codes-split (Forall₂·cons {a = x} h t) =
+split-codes Forall₂·nil = Forall₂·nil
+split-codes (Forall₂·cons {a = x} h t) =
     let v : x % 2 ≤ 3 = omega arith in
     let m : x / 2 ≤ 3 = omega arith in
-    Forall₂·cons v (Forall₂·cons m (codes-split t))
-
-pub split-codes : {xs : List ℕ} → Codes xs → Codes (split xs)
-split-codes h = codes-split h
+    Forall₂·cons v (Forall₂·cons m (split-codes t))
 
 -- they are plain values
 pub split-plain : {xs ys : List ℕ} → Forall₂ Code xs ys → map (λ x. x % 2) (split xs) ≡ split xs
