@@ -10,6 +10,7 @@ use lib.ListN.{length, getD}
 use borrow.Author.Tests.{eqb-true}
 use Rattle.gates.specs.Kinds.{OUT}
 use Rattle.gates.specs.Rules.{mark}
+use Rattle.gates.proofs.EachCode.{both}
 use Rattle.netlist.specs.declared.image.Net.{Net}
 use Rattle.netlist.specs.Image.{net}
 use Rattle.tracker.specs.Cycle.{Verdict, clear, flow, verdictFrom, Cycle, cycleOf, FirstFlow, firstOf, firstFlow}
@@ -24,14 +25,10 @@ record Passed (x : Net) (b : ℕ) : Type 0 where
   protected : x .b ≡ 1
   marked : mark b ≡ true
 
-and-both : (p q : Bool) → (p && q) ≡ true → (p ≡ true) × (q ≡ true)
-and-both true q h = (refl, h)
-and-both false q h = (h, cc)
-
 passed : (x : Net) (b : ℕ) → test x b ≡ true → Passed x b
 passed x b h =
-    let t = and-both (eqb (x .kind) OUT && eqb (x .b) 1) (mark b) h in
-    let u = and-both (eqb (x .kind) OUT) (eqb (x .b) 1) (t .0) in
+    let t = both (eqb (x .kind) OUT && eqb (x .b) 1) (mark b) h in
+    let u = both (eqb (x .kind) OUT) (eqb (x .b) 1) (t .0) in
     record { out = eqb-true _ _ (u .0); protected = eqb-true _ _ (u .1); marked = t .1 }
 
 not-passed : (x : Net) (b : ℕ) → test x b ≡ false → Passed x b → ⊥

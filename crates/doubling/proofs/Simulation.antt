@@ -35,7 +35,7 @@ unfolding split
 split-length [] = refl
 split-length (x ∷ l) = let h = split-length l in omega arith
 
-two-more : (n : ℕ) → 2 * suc n ≡ suc (suc (2 * n))
+pub two-more : (n : ℕ) → 2 * suc n ≡ suc (suc (2 * n))
 two-more n = omega arith
 
 pub split-take : (n : ℕ) (l : List ℕ) → take (2 * n) (split l) ≡ split (take n l)
