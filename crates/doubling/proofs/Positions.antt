@@ -66,14 +66,14 @@ shape-at xs i y = shape (valueNet xs i) (y .kind) (y .a) (y .b) (y .c) (valueNet
 pub group-length : (xs : List Net) (i : ℕ) (y : Net) → length (groupAt xs i y) ≡ groupLength (y .kind)
 group-length xs i y = shape-at xs i y .long
 
-pub groups-length : (xs : List Net) (i : ℕ) (ys : List Net) → length (groupsFrom xs i ys) ≡ doubledSize ys
+groups-length : (xs : List Net) (i : ℕ) (ys : List Net) → length (groupsFrom xs i ys) ≡ doubledSize ys
 unfolding groupsFrom doubledSize
 groups-length xs i [] = refl
 groups-length xs i (y ∷ ys) =
     length-append (groupAt xs i y) (groupsFrom xs (suc i) ys)
     ∙ ap₂ _+_ (group-length xs i y) (groups-length xs (suc i) ys)
 
-pub size-append : (xs ys : List Net) → doubledSize (xs ++ ys) ≡ doubledSize xs + doubledSize ys
+size-append : (xs ys : List Net) → doubledSize (xs ++ ys) ≡ doubledSize xs + doubledSize ys
 unfolding doubledSize
 size-append [] ys = sym (zero-add (doubledSize ys))
 size-append (x ∷ xs) ys = let h = size-append xs ys in omega arith
@@ -211,7 +211,7 @@ pub doubled-length : (xs : List Net) → length (doubledNets xs) ≡ doubledSize
 unfolding doubledNets
 doubled-length xs = groups-length xs 0 xs
 
-pub groups-at : (xs : List Net) (i : ℕ) → i ≤ length xs → drop (valueNet xs i) (doubledNets xs) ≡ groupsFrom xs i (drop i xs)
+groups-at : (xs : List Net) (i : ℕ) → i ≤ length xs → drop (valueNet xs i) (doubledNets xs) ≡ groupsFrom xs i (drop i xs)
 unfolding doubledNets valueNet
 groups-at xs i h =
     let e : groupsFrom xs 0 xs ≡ groupsFrom xs 0 (take i xs) ++ groupsFrom xs i (drop i xs) =

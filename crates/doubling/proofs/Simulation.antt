@@ -25,7 +25,7 @@ use Rattle.doubling.proofs.Positions.{below-or, Laid, end, next, laid, 
 use Rattle.doubling.proofs.Groups.{at, past-gate, walked-all, comes-length, Splits, byte-splits, const-splits, Bits, Group, not-group, and-group, or-group, xor-group, mux-group, out-group}
 
 -- SPLIT BYTES
-pub split-append : (xs ys : List ℕ) → split (xs ++ ys) ≡ split xs ++ split ys
+split-append : (xs ys : List ℕ) → split (xs ++ ys) ≡ split xs ++ split ys
 unfolding split
 split-append [] ys = refl
 split-append (x ∷ xs) ys = rw (split-append xs ys)
@@ -211,7 +211,7 @@ begins xs row st br bs =
     }
 
 -- from the start of a cycle to its end
-pub cycle-follows : {xs : List Net} {n : ℕ} (row st : List ℕ) → AllPass n 0 xs → n ≡ length xs → Codes row → Codes st
+cycle-follows : {xs : List Net} {n : ℕ} (row st : List ℕ) → AllPass n 0 xs → n ≡ length xs → Codes row → Codes st
     → Follows xs n (walk gateByte xs (at [] row st)) (walk gateByte (doubledNets xs) (at [] (split row) (split st)))
 unfolding doubledNets
 cycle-follows {xs} row st ps e br bs = follow ps e ps (laid xs) (omega arith) (begins xs row st br bs)

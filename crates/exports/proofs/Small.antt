@@ -83,7 +83,7 @@ doubled-given s buffer =
     either-way (doubleRefusal s buffer) (λ h. rw (double-accepted s buffer h) no) (λ r h. rw (double-refused s buffer r h) (rw h at (double-given s buffer)))
 
 -- so the numbers fit
-pub refusal-fits : {r : Refusal} → Tabled r → refusalCode r < 2 ^ 64
+refusal-fits : {r : Refusal} → Tabled r → refusalCode r < 2 ^ 64
 refusal-fits t = omega (arith, t .most, t .place)
 
 pub outcome-fits : {p : Option Refusal} → Given p → outcomeCode p < 2 ^ 64

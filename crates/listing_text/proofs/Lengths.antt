@@ -9,7 +9,7 @@ use Rattle.tracker.specs.Cycle.{Verdict, clear, flow}
 use Rattle.listing_text.specs.Lines.{space, newline, decimal, numbered, endWord, refusedWord, digit, outputDigits, verdictText, cycleLine, endLine, refusedLine}
 use Rattle.listing_text.proofs.Decimal.{decimal-most}
 
--- one byte for each output, and a byte where there is none
+-- a byte for each output, and one where there is none
 outputs-within : (n : ℕ) (xs : List ℕ) → 1 ≤ n → length xs ≤ n → length (outputDigits xs) ≤ n
 unfolding outputDigits
 outputs-within n [] l h = omega arith

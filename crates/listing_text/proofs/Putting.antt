@@ -114,7 +114,7 @@ module _ (d : List ℕ) (p : ℕ) (line : List ℕ) (h : p + length line ≤ len
   unfolding put
   put-is = e ∙ rw (le-leb (p + length line) (length d) h)
 
-  pub put-place : p′ ≡ p + length line
+  put-place : p′ ≡ p + length line
   put-place = ap (λ (x : Put). x .place) put-is
 
   pub put-text : take p′ d′ ≡ take p d ++ line

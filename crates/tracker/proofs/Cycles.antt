@@ -68,22 +68,22 @@ module _ {R : ℕ → ℕ → Type 0} (kept : Kept R) where
         state = pairs-drop (cond (eqb (x .kind) 2) 1 0) (h .state);
       }
 
-  pub walk-related : {n i : ℕ} {xs : List Net} {w w′ : Walk} → AllPass n i xs → WalkRelated R w w′
+  walk-related : {n i : ℕ} {xs : List Net} {w w′ : Walk} → AllPass n i xs → WalkRelated R w w′
       → WalkRelated R (walk gateByte xs w) (walk gateByte xs w′)
   unfolding walk
   walk-related nil h = h
   walk-related (cons p ps) h = walk-related ps (past-related p h)
 
-  pub bytes-related :
+  bytes-related :
       {n i : ℕ} {xs : List Net} {row row′ st st′ : List ℕ} → AllPass n i xs → Forall₂ R row row′ → Forall₂ R st st′
       → Forall₂ R (bytesOf gateByte xs row st) (bytesOf gateByte xs row′ st′)
   unfolding bytesOf
   bytes-related ps p q = walk-related ps (record { bytes = Forall₂·nil; row = p; state = q }) .bytes
 
-  pub outputs-related : {bs cs : List ℕ} (i : ℕ) (xs : List Net) → Forall₂ R bs cs → Forall₂ R (outputsFrom i xs bs) (outputsFrom i xs cs)
+  outputs-related : {bs cs : List ℕ} (i : ℕ) (xs : List Net) → Forall₂ R bs cs → Forall₂ R (outputsFrom i xs bs) (outputsFrom i xs cs)
   outputs-related {bs} {cs} i xs h = selections-related R (outputs-selected bs) (outputs-selected cs) (λ j x. byte-related j h) i xs
 
-  pub clocked-related : {bs cs : List ℕ} (xs : List Net) → Forall₂ R bs cs → Forall₂ R (clocked xs bs) (clocked xs cs)
+  clocked-related : {bs cs : List ℕ} (xs : List Net) → Forall₂ R bs cs → Forall₂ R (clocked xs bs) (clocked xs cs)
   unfolding clocked
   clocked-related xs h = registers-related R (λ x. pin-related (x .a) h) xs
 

@@ -11,7 +11,7 @@ use Rattle.tracker.proofs.Reading.{Gate, gate, in-range, code-at, gate-
 use Rattle.tracker.proofs.nets.net_byte.Statement.{statement}
 use Rattle.tracker.proofs.nets.net_byte.Tie as tie
 
--- where the kind and operand a are read
+-- the function's entry, from where its kind and operand a are read
 abbrev start : tie.After-operand-at → tie.Start
 start c = c .before .before .before .before .before .before
 
