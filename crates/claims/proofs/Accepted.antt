@@ -1,5 +1,5 @@
 -- When a call is accepted.
-use Prim.Native.Nat.{ℕ, suc, _≤_}
+use Prim.Native.Nat.{ℕ, suc}
 use native.Mathlib.Omega.{arith}
 use mathlib.Core.List.{List, [], _∷_, Forall₂·nil, Forall₂·cons}
 use lib.Dec.{lit≤}

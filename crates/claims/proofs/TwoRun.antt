@@ -4,18 +4,20 @@ use native.Mathlib.Omega.{arith}
 use mathlib.Core.Path.{_≡_, refl, sym, ap, ap₂}
 use mathlib.Core.List.{List, Forall₂, Forall₂·nil, Forall₂·cons}
 use mathlib.Core.Option.{Option, none, some}
+use lib.Dec.{ltb}
 use lib.ListN.{length, getD}
 use Rattle.gates.specs.Relations.{AgreeByte, same, low-high, high-low, Agree}
 use Rattle.netlist.specs.Image.{sizesOf, netsOf}
 use Rattle.netlist.specs.declared.answer.Refusal.{Refusal}
-use Rattle.netlist.specs.Check.{badByte, badLength}
+use Rattle.netlist.specs.Check.{refuse, _then_, checkRefusal, badByte, badLength}
 use Rattle.netlist.proofs.Pairs.{pairs-refl, pairs-length, pairs-append, pairs-map, pairs-square}
 use Rattle.netlist.proofs.Checked.{Checked, check-none}
 use Rattle.tracker.specs.Cycle.{Cycle, firstOf, firstFlow}
-use Rattle.tracker.specs.Calls.{done, Stepped, powerUpOf, asStep, stepRefusal, runRefusal}
+use Rattle.tracker.specs.Calls.{done, Stepped, powerUpOf, asStep, lentRefusal, stepRefusal, runRefusal}
 use Rattle.tracker.proofs.Cycles.{Related, agree-outputs, agree-cycle, agree-cycles, outputs-of-related, state-after-related}
 use Rattle.tracker.proofs.Calls.{step-none, run-none, starts-state, powered-up}
 use Rattle.doubling.specs.Doubled.{split}
+use Rattle.doubling.proofs.Simulation.{two-more}
 use Rattle.claims.specs.History.{Call, refusalOf, stepped, ran, callResult, history, cyclesIn, Finished, InSteps}
 use Rattle.claims.specs.Pairing.{Shows}
 use Rattle.claims.specs.TwoRun.{Matched, steps, runs, SameCycle, SameCall, turned-back, finished, SameCalls, SameShown, Demand3}
@@ -38,24 +40,21 @@ same-byte number i (Forall₂·cons same t) = rw (same-byte number (suc i) t)
 same-byte number i (Forall₂·cons low-high t) = rw (same-byte number (suc i) t)
 same-byte number i (Forall₂·cons high-low t) = rw (same-byte number (suc i) t)
 
+same-lent : (registers pins filled : ℕ) {st st′ r r′ : List ℕ} (b b′ : List ℕ) → Agree st st′ → Agree r r′ → length b ≡ length b′
+    → lentRefusal registers pins filled st r b ≡ lentRefusal registers pins filled st′ r′ b′
+same-lent registers pins filled {st} {st′} {r} {r′} b b′ q p h =
+    rw (
+      same-length st st′ 10 registers (pairs-length q),
+      same-byte 11 0 q,
+      same-length r r′ 12 pins (pairs-length p),
+      same-byte 13 0 p,
+      same-length b b′ 14 filled h,
+    )
+
 same-refusal : (s : List ℕ) {st st′ : List ℕ} {c d : Call} → Agree st st′ → Matched c d → refusalOf s st c ≡ refusalOf s st′ d
 unfolding refusalOf stepRefusal runRefusal
-same-refusal s {st} {st′} q (steps {r} {r′} {b} {b′} p h) =
-    rw (
-      same-length st st′ 10 (sizesOf s .registers) (pairs-length q),
-      same-byte 11 0 q,
-      same-length r r′ 12 (sizesOf s .inputs) (pairs-length p),
-      same-byte 13 0 p,
-      same-length b b′ 14 (sizesOf s .nets) h,
-    )
-same-refusal s {st} {st′} q (runs {k} {r} {r′} {b} {b′} p h) =
-    rw (
-      same-length st st′ 10 (sizesOf s .registers) (pairs-length q),
-      same-byte 11 0 q,
-      same-length r r′ 12 (k * sizesOf s .inputs) (pairs-length p),
-      same-byte 13 0 p,
-      same-length b b′ 14 (k * sizesOf s .outputs) h,
-    )
+same-refusal s q (steps {b = b} {b′} p h) = ap (λ o. checkRefusal s then o) (same-lent _ _ _ b b′ q p h)
+same-refusal s q (runs {k} {b = b} {b′} p h) = ap (λ o. checkRefusal s then (refuse (ltb 4096 k) 9 0 then o)) (same-lent _ _ _ b b′ q p h)
 
 -- CYCLES that agree
 first-equal : {cs cs′ : List Cycle} (i : ℕ) → Forall₂ (Related AgreeByte _≡_) cs cs′ → firstFlow i cs ≡ firstFlow i cs′
@@ -129,9 +128,6 @@ powered-agree : {s : List ℕ} → Checked s → (a b : List ℕ) → length a �
 powered-agree {s} c a b l k = rw (powered-up s a c l, powered-up s b c k) (agree-refl _)
 
 -- THE DOUBLED IMAGE. Bytes that agree, split: the marks are equal, and the values where the mark is 0
-two-more : (j : ℕ) → 2 * suc j ≡ suc (suc (2 * j))
-two-more j = omega arith
-
 two-one-more : (j : ℕ) → 2 * suc j + 1 ≡ suc (suc (2 * j + 1))
 two-one-more j = omega arith
 

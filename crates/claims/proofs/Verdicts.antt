@@ -10,6 +10,7 @@ use lib.ListN.{length, getD}
 use borrow.Author.Tests.{eqb-true}
 use Rattle.gates.specs.Kinds.{OUT}
 use Rattle.gates.specs.Rules.{mark}
+use Rattle.gates.proofs.EachCode.{both}
 use Rattle.netlist.specs.declared.image.Net.{Net}
 use Rattle.netlist.specs.Image.{net}
 use Rattle.tracker.specs.Cycle.{Verdict, clear, flow, verdictFrom, Cycle, cycleOf, FirstFlow, firstOf, firstFlow}
@@ -24,14 +25,10 @@ record Passed (x : Net) (b : ℕ) : Type 0 where
   protected : x .b ≡ 1
   marked : mark b ≡ true
 
-and-both : (p q : Bool) → (p && q) ≡ true → (p ≡ true) × (q ≡ true)
-and-both true q h = (refl, h)
-and-both false q h = (h, cc)
-
 passed : (x : Net) (b : ℕ) → test x b ≡ true → Passed x b
 passed x b h =
-    let t = and-both (eqb (x .kind) OUT && eqb (x .b) 1) (mark b) h in
-    let u = and-both (eqb (x .kind) OUT) (eqb (x .b) 1) (t .0) in
+    let t = both (eqb (x .kind) OUT && eqb (x .b) 1) (mark b) h in
+    let u = both (eqb (x .kind) OUT) (eqb (x .b) 1) (t .0) in
     record { out = eqb-true _ _ (u .0); protected = eqb-true _ _ (u .1); marked = t .1 }
 
 not-passed : (x : Net) (b : ℕ) → test x b ≡ false → Passed x b → ⊥
@@ -50,6 +47,11 @@ data JudgedFrom (i : ℕ) (xs : List Net) (bs : List ℕ) : Verdict → Type 0 w
   none-from : ((j : ℕ) → From i xs bs j → ⊥) → JudgedFrom i xs bs clear
   lowest-from : (j : ℕ) {n : ℕ} → n ≡ i + j → From i xs bs j → ((k : ℕ) → k < j → From i xs bs k → ⊥) → JudgedFrom i xs bs (flow n)
 
+-- what holds at 0 and at every later number
+each : (P : ℕ → Type 0) → P 0 → ((j : ℕ) → P (suc j)) → (j : ℕ) → P j
+each P z s zero = z
+each P z s (suc j) = s j
+
 -- one net before the others
 later : {i : ℕ} {x : Net} {xs : List Net} {bs : List ℕ} (j : ℕ) → From i (x ∷ xs) bs (suc j) → From (suc i) xs bs j
 later {i} j f = let e : i + suc j ≡ suc i + j = omega arith in record { below = omega (arith, f .below); here = rw e at (f .here) }
@@ -57,17 +59,12 @@ later {i} j f = let e : i + suc j ≡ suc i + j = omega arith in record { below 
 sooner : {i : ℕ} {x : Net} {xs : List Net} {bs : List ℕ} (j : ℕ) → From (suc i) xs bs j → From i (x ∷ xs) bs (suc j)
 sooner {i} j f = let e : suc i + j ≡ i + suc j = omega arith in record { below = omega (arith, f .below); here = rw e at (f .here) }
 
+not-here : {i : ℕ} {x : Net} {xs : List Net} {bs : List ℕ} → test x (getD bs i 0) ≡ false → From i (x ∷ xs) bs 0 → ⊥
+not-here {i} {x} h g = let e : i + 0 ≡ i = omega arith in not-passed x _ h (rw e at (g .here))
+
 over : {i : ℕ} {x : Net} {xs : List Net} {bs : List ℕ} {v : Verdict} → test x (getD bs i 0) ≡ false → JudgedFrom (suc i) xs bs v → JudgedFrom i (x ∷ xs) bs v
-over {i} {x} {xs} {bs} h (none-from f) = none-from all
-  where
-    all : (j : ℕ) → From i (x ∷ xs) bs j → ⊥
-    all zero g = let e : i + 0 ≡ i = omega arith in not-passed x _ h (rw e at (g .here))
-    all (suc j) g = f j (later j g)
-over {i} {x} {xs} {bs} h (lowest-from j {n} e g f) = lowest-from (suc j) {n = n} (omega arith) (sooner j g) all
-  where
-    all : (k : ℕ) → k < suc j → From i (x ∷ xs) bs k → ⊥
-    all zero l g = let e : i + 0 ≡ i = omega arith in not-passed x _ h (rw e at (g .here))
-    all (suc k) l g = f k (omega arith) (later k g)
+over h (none-from f) = none-from (each _ (not-here h) (λ j g. f j (later j g)))
+over h (lowest-from j {n} e g f) = lowest-from (suc j) {n = n} (omega arith) (sooner j g) (each _ (λ l. not-here h) (λ k l g. f k (omega arith) (later k g)))
 
 step : (i : ℕ) (x : Net) (xs : List Net) (bs : List ℕ) {v : Verdict} (t : Bool) → test x (getD bs i 0) ≡ t → JudgedFrom (suc i) xs bs v
     → JudgedFrom i (x ∷ xs) bs (cond t (flow i) v)
@@ -105,16 +102,8 @@ data FirstFrom (i : ℕ) (vs : List Verdict) : FirstFlow → Type 0 where
 
 -- one cycle before the others
 after-clear : {i : ℕ} {vs : List Verdict} {f : FirstFlow} → FirstFrom (suc i) vs f → FirstFrom i (clear ∷ vs) f
-after-clear {i} {vs} (clear-from {k} e h) = clear-from {k = k} (omega arith) all
-  where
-    all : (c : ℕ) → c < suc (length vs) → getD (clear ∷ vs) c clear ≡ clear
-    all zero l = refl
-    all (suc c) l = h c (omega arith)
-after-clear {i} {vs} (flow-from c {k} {n} e l g h) = flow-from (suc c) {k = k} {n = n} (omega arith) (omega arith) g all
-  where
-    all : (d : ℕ) → d < suc c → getD (clear ∷ vs) d clear ≡ clear
-    all zero m = refl
-    all (suc d) m = h d (omega arith)
+after-clear (clear-from {k} e h) = clear-from {k = k} (omega arith) (each _ (λ l. refl) (λ c l. h c (omega arith)))
+after-clear (flow-from c {k} {n} e l g h) = flow-from (suc c) {k = k} {n = n} (omega arith) (omega arith) g (each _ (λ m. refl) (λ d m. h d (omega arith)))
 
 first-step : (i : ℕ) (v : Verdict) {vs : List Verdict} {f : FirstFlow} → FirstFrom (suc i) vs f → FirstFrom i (v ∷ vs) (firstOf i v f)
 unfolding firstOf

@@ -24,7 +24,7 @@ pub past-gate : (k a b c : ℕ) (w : Walk) → 3 ≤ k
 unfolding past netByte pinByte
 past-gate k a b c w h = rw (ne-eqb k 0 (λ e. omega arith), ne-eqb k 1 (λ e. omega arith), ne-eqb k 2 (λ e. omega arith))
 
--- what a pin of a group reads, past the bytes bs with es behind them: a byte of bs, or of es, or whatever it is
+-- what a pin of a group reads, past the bytes bs with es behind them: a byte of bs, or of es, or any byte, for a pin that the gate does not use
 pub data Pin (bs : List ℕ) (v : ℕ) (es : List ℕ) : ℕ → ℕ → Type 0 where
   old : {p x : ℕ} → p < v → getD bs p 0 ≡ x → Pin bs v es p x
   new : (k : ℕ) → Pin bs v es (v + k) (getD es k 0)

@@ -37,31 +37,43 @@ two-to-eight {x = x} p =
 pub two-or-more : {n i : ℕ} {x : Net} → Passes n i x → 2 ≤ groupLength (x .kind)
 two-or-more p = two-to-eight p .0
 
--- a group has the length that the table says; a kind above 8 has 0 there, and no nets
-length-by-kind : (v k a b c : ℕ) (val mrk : ℕ → ℕ) → length (groupOf v (net k a b c) val mrk) ≡ groupLength k
+-- a group has the length that the table says, and every OUT in it is free; a kind above 8 has 0 there, and no nets
+abbrev Free : Net → Net → Type 0
+Free x y = T (not (eqb (x .kind) 8) || eqb (x .b) 0)
+
+record Shape (k : ℕ) (g : List Net) : Type 0 where
+  long : length g ≡ groupLength k
+  free : Forall₂ Free g g
+
+ruleset freeing = (Forall₂·nil, Forall₂·cons, tt)
+
+shape : (v k a b c : ℕ) (val mrk : ℕ → ℕ) → Shape k (groupOf v (net k a b c) val mrk)
 unfolding groupLength groupLengths groupOf
-length-by-kind v zero a b c val mrk = refl
-length-by-kind v (suc zero) a b c val mrk = refl
-length-by-kind v (suc (suc zero)) a b c val mrk = refl
-length-by-kind v (suc (suc (suc zero))) a b c val mrk = refl
-length-by-kind v (suc (suc (suc (suc zero)))) a b c val mrk = refl
-length-by-kind v (suc (suc (suc (suc (suc zero))))) a b c val mrk = refl
-length-by-kind v (suc (suc (suc (suc (suc (suc zero)))))) a b c val mrk = refl
-length-by-kind v (suc (suc (suc (suc (suc (suc (suc zero))))))) a b c val mrk = refl
-length-by-kind v (suc (suc (suc (suc (suc (suc (suc (suc zero)))))))) a b c val mrk = refl
-length-by-kind v (suc (suc (suc (suc (suc (suc (suc (suc (suc k))))))))) a b c val mrk = refl
+shape v zero a b c val mrk = record { long = refl; free = search freeing depth 20 }
+shape v (suc zero) a b c val mrk = record { long = refl; free = search freeing depth 20 }
+shape v (suc (suc zero)) a b c val mrk = record { long = refl; free = search freeing depth 20 }
+shape v (suc (suc (suc zero))) a b c val mrk = record { long = refl; free = search freeing depth 20 }
+shape v (suc (suc (suc (suc zero)))) a b c val mrk = record { long = refl; free = search freeing depth 20 }
+shape v (suc (suc (suc (suc (suc zero))))) a b c val mrk = record { long = refl; free = search freeing depth 20 }
+shape v (suc (suc (suc (suc (suc (suc zero)))))) a b c val mrk = record { long = refl; free = search freeing depth 20 }
+shape v (suc (suc (suc (suc (suc (suc (suc zero))))))) a b c val mrk = record { long = refl; free = search freeing depth 20 }
+shape v (suc (suc (suc (suc (suc (suc (suc (suc zero)))))))) a b c val mrk = record { long = refl; free = search freeing depth 20 }
+shape v (suc (suc (suc (suc (suc (suc (suc (suc (suc k))))))))) a b c val mrk = record { long = refl; free = search freeing depth 20 }
+
+shape-at : (xs : List Net) (i : ℕ) (y : Net) → Shape (y .kind) (groupAt xs i y)
+shape-at xs i y = shape (valueNet xs i) (y .kind) (y .a) (y .b) (y .c) (valueNet xs) (markNet xs)
 
 pub group-length : (xs : List Net) (i : ℕ) (y : Net) → length (groupAt xs i y) ≡ groupLength (y .kind)
-group-length xs i y = length-by-kind (valueNet xs i) (y .kind) (y .a) (y .b) (y .c) (valueNet xs) (markNet xs)
+group-length xs i y = shape-at xs i y .long
 
-pub groups-length : (xs : List Net) (i : ℕ) (ys : List Net) → length (groupsFrom xs i ys) ≡ doubledSize ys
+groups-length : (xs : List Net) (i : ℕ) (ys : List Net) → length (groupsFrom xs i ys) ≡ doubledSize ys
 unfolding groupsFrom doubledSize
 groups-length xs i [] = refl
 groups-length xs i (y ∷ ys) =
     length-append (groupAt xs i y) (groupsFrom xs (suc i) ys)
     ∙ ap₂ _+_ (group-length xs i y) (groups-length xs (suc i) ys)
 
-pub size-append : (xs ys : List Net) → doubledSize (xs ++ ys) ≡ doubledSize xs + doubledSize ys
+size-append : (xs ys : List Net) → doubledSize (xs ++ ys) ≡ doubledSize xs + doubledSize ys
 unfolding doubledSize
 size-append [] ys = sym (zero-add (doubledSize ys))
 size-append (x ∷ xs) ys = let h = size-append xs ys in omega arith
@@ -199,7 +211,7 @@ pub doubled-length : (xs : List Net) → length (doubledNets xs) ≡ doubledSize
 unfolding doubledNets
 doubled-length xs = groups-length xs 0 xs
 
-pub groups-at : (xs : List Net) (i : ℕ) → i ≤ length xs → drop (valueNet xs i) (doubledNets xs) ≡ groupsFrom xs i (drop i xs)
+groups-at : (xs : List Net) (i : ℕ) → i ≤ length xs → drop (valueNet xs i) (doubledNets xs) ≡ groupsFrom xs i (drop i xs)
 unfolding doubledNets valueNet
 groups-at xs i h =
     let e : groupsFrom xs 0 xs ≡ groupsFrom xs 0 (take i xs) ++ groupsFrom xs i (drop i xs) =
@@ -243,28 +255,10 @@ module _ (xs : List Net) (i : ℕ) (h : i < length xs) (e : getD xs i nothing .k
       rw m (rw register-group at (group-net xs i 1 h (omega (arith, two-nets))))
 
 -- OUTS are free
-abbrev Free : Net → Net → Type 0
-Free x y = T (not (eqb (x .kind) 8) || eqb (x .b) 0)
-
-ruleset freeing = (Forall₂·nil, Forall₂·cons, tt)
-
-free-by-kind : (v k a b c : ℕ) (val mrk : ℕ → ℕ) → let g = groupOf v (net k a b c) val mrk in Forall₂ Free g g
-unfolding groupOf
-free-by-kind v zero a b c val mrk = search freeing depth 20
-free-by-kind v (suc zero) a b c val mrk = search freeing depth 20
-free-by-kind v (suc (suc zero)) a b c val mrk = search freeing depth 20
-free-by-kind v (suc (suc (suc zero))) a b c val mrk = search freeing depth 20
-free-by-kind v (suc (suc (suc (suc zero)))) a b c val mrk = search freeing depth 20
-free-by-kind v (suc (suc (suc (suc (suc zero))))) a b c val mrk = search freeing depth 20
-free-by-kind v (suc (suc (suc (suc (suc (suc zero)))))) a b c val mrk = search freeing depth 20
-free-by-kind v (suc (suc (suc (suc (suc (suc (suc zero))))))) a b c val mrk = search freeing depth 20
-free-by-kind v (suc (suc (suc (suc (suc (suc (suc (suc zero)))))))) a b c val mrk = search freeing depth 20
-free-by-kind v (suc (suc (suc (suc (suc (suc (suc (suc (suc k))))))))) a b c val mrk = search freeing depth 20
-
 groups-free : (xs : List Net) (i : ℕ) (ys : List Net) → Forall₂ Free (groupsFrom xs i ys) (groupsFrom xs i ys)
 unfolding groupsFrom
 groups-free xs i [] = Forall₂·nil
-groups-free xs i (y ∷ ys) = pairs-append (free-by-kind (valueNet xs i) (y .kind) (y .a) (y .b) (y .c) (valueNet xs) (markNet xs)) (groups-free xs (suc i) ys)
+groups-free xs i (y ∷ ys) = pairs-append (shape-at xs i y .free) (groups-free xs (suc i) ys)
 
 pub outs-free : (xs : List Net) (j : ℕ) → getD (doubledNets xs) j nothing .kind ≡ 8 → getD (doubledNets xs) j nothing .b ≡ 0
 unfolding doubledNets

@@ -19,12 +19,13 @@ use Rattle.netlist.proofs.Refusals.{Codes}
 use Rattle.netlist.proofs.Checked.{Passes, is-const, is-input, is-reg, is-not, is-and, is-or, is-xor, is-mux, is-out, AllPass, nil, cons}
 use Rattle.tracker.specs.Cycle.{Walk, pinByte, netByte, past, walk, bytesOf, outputsFrom, registers, clocked, Cycle, cycleOf}
 use Rattle.tracker.specs.Calls.{start, starts}
+use Rattle.tracker.proofs.Selections.{Selection, outputs-selected, registers-selected, selection-append}
 use Rattle.doubling.specs.Doubled.{groupLength, groupLengths, doubledSize, valueNet, markNet, groupOf, groupAt, groupsFrom, doubledNets, split}
 use Rattle.doubling.proofs.Positions.{below-or, Laid, end, next, laid, group-length, value-below, mark-below, mark-second}
 use Rattle.doubling.proofs.Groups.{at, past-gate, walked-all, comes-length, Splits, byte-splits, const-splits, Bits, Group, not-group, and-group, or-group, xor-group, mux-group, out-group}
 
 -- SPLIT BYTES
-pub split-append : (xs ys : List ℕ) → split (xs ++ ys) ≡ split xs ++ split ys
+split-append : (xs ys : List ℕ) → split (xs ++ ys) ≡ split xs ++ split ys
 unfolding split
 split-append [] ys = refl
 split-append (x ∷ xs) ys = rw (split-append xs ys)
@@ -34,7 +35,7 @@ unfolding split
 split-length [] = refl
 split-length (x ∷ l) = let h = split-length l in omega arith
 
-two-more : (n : ℕ) → 2 * suc n ≡ suc (suc (2 * n))
+pub two-more : (n : ℕ) → 2 * suc n ≡ suc (suc (2 * n))
 two-more n = omega arith
 
 pub split-take : (n : ℕ) (l : List ℕ) → take (2 * n) (split l) ≡ split (take n l)
@@ -52,16 +53,13 @@ split-drop (suc n) (x ∷ l) = rw (two-more n) (split-drop n l)
 split-rest : (l : List ℕ) → drop 1 (drop 1 (split l)) ≡ split (drop 1 l)
 split-rest l = drop-drop 1 1 (split l) ∙ split-drop 1 l
 
-codes-split : {xs ys : List ℕ} → Forall₂ Code xs ys → Forall₂ Code (split xs) (split ys)
+pub split-codes : {xs ys : List ℕ} → Forall₂ Code xs ys → Forall₂ Code (split xs) (split ys)
 unfolding split
-codes-split Forall₂·nil = Forall₂·nil
-codes-split (Forall₂·cons {a = x} h t) =
+split-codes Forall₂·nil = Forall₂·nil
+split-codes (Forall₂·cons {a = x} h t) =
     let v : x % 2 ≤ 3 = omega arith in
     let m : x / 2 ≤ 3 = omega arith in
-    Forall₂·cons v (Forall₂·cons m (codes-split t))
-
-pub split-codes : {xs : List ℕ} → Codes xs → Codes (split xs)
-split-codes h = codes-split h
+    Forall₂·cons v (Forall₂·cons m (split-codes t))
 
 -- they are plain values
 pub split-plain : {xs ys : List ℕ} → Forall₂ Code xs ys → map (λ x. x % 2) (split xs) ≡ split xs
@@ -213,27 +211,28 @@ begins xs row st br bs =
     }
 
 -- from the start of a cycle to its end
-pub cycle-follows : {xs : List Net} {n : ℕ} (row st : List ℕ) → AllPass n 0 xs → n ≡ length xs → Codes row → Codes st
+cycle-follows : {xs : List Net} {n : ℕ} (row st : List ℕ) → AllPass n 0 xs → n ≡ length xs → Codes row → Codes st
     → Follows xs n (walk gateByte xs (at [] row st)) (walk gateByte (doubledNets xs) (at [] (split row) (split st)))
 unfolding doubledNets
 cycle-follows {xs} row st ps e br bs = follow ps e ps (laid xs) (omega arith) (begins xs row st br bs)
 
 -- OUTPUTS, CLOCK AND POWER-UP. What is read off the bytes of a cycle, group by group
-cond-append : (c : Bool) (xs ys zs : List ℕ) → cond c (xs ++ zs) (ys ++ zs) ≡ cond c xs ys ++ zs
-cond-append true xs ys zs = refl
-cond-append false xs ys zs = refl
+module _ {k : ℕ} {l l′ : ℕ → List Net → List ℕ} {b b′ : ℕ → Net → ℕ} (selection : Selection k l b) (selection′ : Selection k l′ b′)
+    {n : ℕ} {xs : List Net} (ps : AllPass n 0 xs) (e : n ≡ length xs)
+    (group : (i : ℕ) (y : Net) → i < n → Passes n i y → valueNet xs (suc i) ≡ valueNet xs i + groupLength (y .kind)
+    → l′ (valueNet xs i) (groupAt xs i y) ≡ split (l i (y ∷ []))) where
+  groups-split : {i : ℕ} {ys : List Net} → AllPass n i ys → Laid xs i ys → i + length ys ≡ n → l′ (valueNet xs i) (groupsFrom xs i ys) ≡ split (l i ys)
+  unfolding groupsFrom split
+  groups-split (nil {i}) (end m) h = rw (selection .none i, selection′ .none (valueNet xs i))
+  groups-split (cons {i = i} {x = y} {xs = ys} q qs) (next m ls) h =
+      let e : valueNet xs i + length (groupAt xs i y) ≡ valueNet xs (suc i) = rw (group-length xs i y) (sym m) in
+      let o : l i (y ∷ ys) ≡ l i (y ∷ []) ++ l (suc i) ys = rw add-one at (selection-append selection i (y ∷ []) ys) in
+      rw (selection-append selection′ (valueNet xs i) (groupAt xs i y) (groupsFrom xs (suc i) ys), e, o, split-append (l i (y ∷ [])) (l (suc i) ys))
+      (ap₂ (λ (a b : List ℕ). a ++ b) (group i y (omega arith) q m) (groups-split qs ls (omega arith)))
 
-outputs-append : (i : ℕ) (gs hs : List Net) (bs : List ℕ) → outputsFrom i (gs ++ hs) bs ≡ outputsFrom i gs bs ++ outputsFrom (i + length gs) hs bs
-unfolding outputsFrom
-outputs-append i [] hs bs = rw add-zero
-outputs-append i (g ∷ gs) hs bs =
-    let e : i + suc (length gs) ≡ suc i + length gs = omega arith in
-    rw (e, outputs-append (suc i) gs hs bs) (cond-append (eqb (g .kind) 8) (getD bs i 0 ∷ outputsFrom (suc i) gs bs) (outputsFrom (suc i) gs bs) _)
-
-registers-append : (f : Net → ℕ) (gs hs : List Net) → registers f (gs ++ hs) ≡ registers f gs ++ registers f hs
-unfolding registers
-registers-append f [] hs = refl
-registers-append f (g ∷ gs) hs = rw (registers-append f gs hs) (cond-append (eqb (g .kind) 2) (f g ∷ registers f gs) (registers f gs) _)
+  doubled-split : l′ 0 (doubledNets xs) ≡ split (l 0 xs)
+  unfolding doubledNets valueNet doubledSize
+  doubled-split = groups-split ps (laid xs) (omega arith)
 
 -- the two registers of a register take the value and the mark of what it takes
 module _ (f f′ : Net → ℕ) {n : ℕ} (xs : List Net)
@@ -251,16 +250,8 @@ module _ (f f′ : Net → ℕ) {n : ℕ} (xs : List Net)
   group-registers (is-mux h k o) = refl
   group-registers (is-out h k) = refl
 
-  groups-registers : {i : ℕ} {ys : List Net} → AllPass n i ys → registers f′ (groupsFrom xs i ys) ≡ split (registers f ys)
-  unfolding groupsFrom
-  groups-registers nil = unfold registers split in refl
-  groups-registers (cons {i = i} {x = y} {xs = ys} p ps) =
-      rw (
-        registers-append f′ (groupAt xs i y) (groupsFrom xs (suc i) ys),
-        registers-append f (y ∷ []) ys,
-        split-append (registers f (y ∷ [])) (registers f ys),
-      )
-      (ap₂ (λ (a b : List ℕ). a ++ b) (group-registers p) (groups-registers ps))
+  registers-split : AllPass n 0 xs → n ≡ length xs → registers f′ (doubledNets xs) ≡ split (registers f xs)
+  registers-split ps e = doubled-split (registers-selected f) (registers-selected f′) ps e (λ i y h p m. group-registers p)
 
 -- a start is a plain value, and the mark register's start is 0
 start-splits : (b : ℕ) → (start b ≡ start b % 2) × (start 0 ≡ start b / 2)
@@ -271,17 +262,17 @@ start-splits b = plain (eqb b 1)
     plain true = (refl, refl)
     plain false = (refl, refl)
 
-pub starts-split : {xs : List Net} {n : ℕ} → AllPass n 0 xs → starts (doubledNets xs) ≡ split (starts xs)
-unfolding starts doubledNets
-starts-split {xs} ps = groups-registers _ _ xs (λ a b h. start-splits b .0) (λ a b h. start-splits b .1) ps
+pub starts-split : {xs : List Net} {n : ℕ} → AllPass n 0 xs → n ≡ length xs → starts (doubledNets xs) ≡ split (starts xs)
+unfolding starts
+starts-split {xs} ps e = registers-split _ _ xs (λ a b h. start-splits b .0) (λ a b h. start-splits b .1) ps e
 
 -- bytes bs of all n nets of xs, and the bytes ds of their groups
 module _ (xs : List Net) {n : ℕ} (bs ds : List ℕ)
     (value : (j : ℕ) → j < n → getD ds (valueNet xs j) 0 ≡ getD bs j 0 % 2)
     (mark : (j : ℕ) → j < n → getD ds (markNet xs j) 0 ≡ getD bs j 0 / 2) where
-  clocked-split : AllPass n 0 xs → clocked (doubledNets xs) ds ≡ split (clocked xs bs)
-  unfolding clocked doubledNets pinByte
-  clocked-split ps = groups-registers _ _ xs (λ a b h. value a h) (λ a b h. mark a h) ps
+  clocked-split : AllPass n 0 xs → n ≡ length xs → clocked (doubledNets xs) ds ≡ split (clocked xs bs)
+  unfolding clocked pinByte
+  clocked-split ps e = registers-split _ _ xs (λ a b h. value a h) (λ a b h. mark a h) ps e
 
   group-outputs : {i : ℕ} {y : Net} → i < n → Passes n i y → valueNet xs (suc i) ≡ valueNet xs i + groupLength (y .kind)
       → outputsFrom (valueNet xs i) (groupAt xs i y) ds ≡ split (outputsFrom i (y ∷ []) bs)
@@ -296,20 +287,8 @@ module _ (xs : List Net) {n : ℕ} (bs ds : List ℕ)
   group-outputs l (is-mux h k o) m = refl
   group-outputs {i} l (is-out h k) m = let e = mark-second xs i m in rw (← e, value i l, mark i l)
 
-  groups-outputs : {i : ℕ} {ys : List Net} → AllPass n i ys → Laid xs i ys → i + length ys ≡ n
-      → outputsFrom (valueNet xs i) (groupsFrom xs i ys) ds ≡ split (outputsFrom i ys bs)
-  unfolding groupsFrom
-  groups-outputs nil (end l) h = unfold outputsFrom split in refl
-  groups-outputs (cons {i = i} {x = y} {xs = ys} p ps) (next m ls) h =
-      let e : valueNet xs i + length (groupAt xs i y) ≡ valueNet xs (suc i) = rw (group-length xs i y) (sym m) in
-      let o : outputsFrom i (y ∷ ys) bs ≡ outputsFrom i (y ∷ []) bs ++ outputsFrom (suc i) ys bs = rw add-one at (outputs-append i (y ∷ []) ys bs) in
-      rw (
-        outputs-append (valueNet xs i) (groupAt xs i y) (groupsFrom xs (suc i) ys) ds,
-        e,
-        o,
-        split-append (outputsFrom i (y ∷ []) bs) (outputsFrom (suc i) ys bs),
-      )
-      (ap₂ (λ (a b : List ℕ). a ++ b) (group-outputs (omega arith) p m) (groups-outputs ps ls (omega arith)))
+  outputs-split : AllPass n 0 xs → n ≡ length xs → outputsFrom 0 (doubledNets xs) ds ≡ split (outputsFrom 0 xs bs)
+  outputs-split ps e = doubled-split (outputs-selected bs) (outputs-selected ds) ps e (λ i y h p m. group-outputs h p m)
 
 -- ONE CYCLE
 abbrev doubledCycle : List Net → (row st : List ℕ) → Cycle
@@ -330,6 +309,6 @@ cycle-splits {xs} {n} row st ps e br bs =
     record {
       values = λ j h. f .value j (omega arith);
       marks = λ j h. f .mark j (omega arith);
-      outputs = unfold doubledNets valueNet doubledSize in groups-outputs xs b d (f .value) (f .mark) ps (laid xs) (omega arith);
-      state = clocked-split xs b d (f .value) (f .mark) ps;
+      outputs = outputs-split xs b d (f .value) (f .mark) ps e;
+      state = clocked-split xs b d (f .value) (f .mark) ps e;
     }

@@ -12,7 +12,7 @@ use Rattle.gates.specs.Kinds.{INPUT, REG}
 use Rattle.netlist.specs.declared.image.Net.{Net}
 use Rattle.netlist.specs.Image.{sizesOf, netsOf}
 use Rattle.netlist.specs.declared.answer.Refusal.{Refusal}
-use Rattle.netlist.specs.Check.{refusal, refuse, _then_, badPin, badValue, badUnlisted, wrongCounts, netRefusal, netsRefusal, checkRefusal, badByte, badLength}
+use Rattle.netlist.specs.Check.{refuse, _then_, badPin, badValue, badUnlisted, wrongCounts, netRefusal, netsRefusal, checkRefusal, badByte, badLength}
 use Rattle.netlist.proofs.Refusals.{accepted}
 use Rattle.netlist.proofs.Checked.{Checked, check-none, length-nets, few-of}
 use Rattle.tracker.specs.Calls.{powerUpRefusal, lentRefusal, stepRefusal, runRefusal}

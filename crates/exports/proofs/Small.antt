@@ -1,9 +1,9 @@
 -- How large the number of an answer is: below 2^32 without a refusal, and below 2^64 with one.
 use Prim.Native.Nat.{ℕ, zero, suc, _+_, _^_, _≤_, _<_}
 use native.Mathlib.Omega.{arith}
-use mathlib.Core.Path.{_≡_, refl}
+use mathlib.Core.Path.{_≡_}
 use mathlib.Core.List.{List}
-use mathlib.Core.Option.{Option, none, some}
+use mathlib.Core.Option.{Option, some}
 use lib.ListN.{length, take, drop}
 use Rattle.netlist.specs.declared.image.Net.{Net}
 use Rattle.netlist.specs.Image.{sizesOf, netsOf}
@@ -11,7 +11,7 @@ use Rattle.netlist.specs.declared.answer.Refusal.{Refusal}
 use Rattle.netlist.proofs.Checked.{length-nets}
 use Rattle.tracker.specs.Cycle.{Verdict, clear, flow, cycleOf, cyclesOf, FirstFlow, firstOf, firstFlow}
 use Rattle.tracker.specs.Calls.{Answer, done, refused, asStep, asRun, powerUpRefusal, powerUpOf, stepRefusal, stepOf, runRefusal, runOf}
-use Rattle.tracker.proofs.Calls.{power-up-accepted, power-up-refused, step-accepted, step-refused, step-none, run-accepted, run-refused, run-none}
+use Rattle.tracker.proofs.Calls.{either-way, power-up-accepted, power-up-refused, step-accepted, step-refused, step-none, run-accepted, run-refused, run-none}
 use Rattle.doubling.specs.Doubled.{doubleRefusal, doubleOf}
 use Rattle.doubling.proofs.Checks.{double-accepted, double-refused}
 use Rattle.claims.specs.Verdicts.{Judged, none, lowest}
@@ -56,42 +56,34 @@ tabled (one t) = t
 
 pub step-answered : (s st row nets : List ℕ) → Answered (λ v. verdictCode v ≤ 8192) (stepOf s st row nets .answer)
 unfolding asStep
-step-answered s st row nets = by (stepRefusal s st row nets) refl (step-given s st row nets)
-  where
-    by : (p : Option Refusal) → stepRefusal s st row nets ≡ p → Given p → Answered (λ v. verdictCode v ≤ 8192) (stepOf s st row nets .answer)
-    by none h g =
-        let few = step-none s st row nets .0 h .0 .image .few-nets in
-        rw (step-accepted s st row nets h) (gave (cycleOf (netsOf s) row st .verdict) (omega (arith, verdict-small (netsOf s) row st, length-nets s, few)))
-    by (some r) h g = rw (step-refused s st row nets r h) (turned-back (tabled g))
+step-answered s st row nets =
+    either-way (stepRefusal s st row nets)
+    (λ h.
+    let few = step-none s st row nets .0 h .0 .image .few-nets in
+    rw (step-accepted s st row nets h) (gave (cycleOf (netsOf s) row st .verdict) (omega (arith, verdict-small (netsOf s) row st, length-nets s, few))))
+    (λ r h. rw (step-refused s st row nets r h) (turned-back (tabled (rw h at (step-given s st row nets)))))
 
 pub run-answered : (s st : List ℕ) (k : ℕ) (rows outputs : List ℕ) → Answered (Among 4096 8192) (runOf s st k rows outputs .answer)
 unfolding asRun
-run-answered s st k rows outputs = by (runRefusal s st k rows outputs) refl (run-given s st k rows outputs)
-  where
-    by : (p : Option Refusal) → runRefusal s st k rows outputs ≡ p → Given p → Answered (Among 4096 8192) (runOf s st k rows outputs .answer)
-    by none h g =
-        let n = run-none s st k rows outputs .0 h in
-        let a = flow-among (netsOf s) (sizesOf s .inputs) k 0 rows st in
-        rw (run-accepted s st k rows outputs h)
-        (gave (firstFlow 0 (cyclesOf (netsOf s) (sizesOf s .inputs) k rows st)) (record { cycle = omega (arith, a .cycle, n .1); verdict = omega (arith, a .verdict, length-nets s, n .0 .image .few-nets) }))
-    by (some r) h g = rw (run-refused s st k rows outputs r h) (turned-back (tabled g))
+run-answered s st k rows outputs =
+    either-way (runRefusal s st k rows outputs)
+    (λ h.
+    let n = run-none s st k rows outputs .0 h in
+    let a = flow-among (netsOf s) (sizesOf s .inputs) k 0 rows st in
+    rw (run-accepted s st k rows outputs h)
+    (gave (firstFlow 0 (cyclesOf (netsOf s) (sizesOf s .inputs) k rows st)) (record { cycle = omega (arith, a .cycle, n .1); verdict = omega (arith, a .verdict, length-nets s, n .0 .image .few-nets) })))
+    (λ r h. rw (run-refused s st k rows outputs r h) (turned-back (tabled (rw h at (run-given s st k rows outputs)))))
 
 pub powered-up-given : (s st : List ℕ) → Given (powerUpOf s st .refusal)
-powered-up-given s st = by (powerUpRefusal s st) refl (power-up-given s st)
-  where
-    by : (p : Option Refusal) → powerUpRefusal s st ≡ p → Given p → Given (powerUpOf s st .refusal)
-    by none h g = rw (power-up-accepted s st h) no
-    by (some r) h g = rw (power-up-refused s st r h) g
+powered-up-given s st =
+    either-way (powerUpRefusal s st) (λ h. rw (power-up-accepted s st h) no) (λ r h. rw (power-up-refused s st r h) (rw h at (power-up-given s st)))
 
 pub doubled-given : (s buffer : List ℕ) → Given (doubleOf s buffer .refusal)
-doubled-given s buffer = by (doubleRefusal s buffer) refl (double-given s buffer)
-  where
-    by : (p : Option Refusal) → doubleRefusal s buffer ≡ p → Given p → Given (doubleOf s buffer .refusal)
-    by none h g = rw (double-accepted s buffer h) no
-    by (some r) h g = rw (double-refused s buffer r h) g
+doubled-given s buffer =
+    either-way (doubleRefusal s buffer) (λ h. rw (double-accepted s buffer h) no) (λ r h. rw (double-refused s buffer r h) (rw h at (double-given s buffer)))
 
 -- so the numbers fit
-pub refusal-fits : {r : Refusal} → Tabled r → refusalCode r < 2 ^ 64
+refusal-fits : {r : Refusal} → Tabled r → refusalCode r < 2 ^ 64
 refusal-fits t = omega (arith, t .most, t .place)
 
 pub outcome-fits : {p : Option Refusal} → Given p → outcomeCode p < 2 ^ 64

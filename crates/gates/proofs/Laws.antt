@@ -1,5 +1,5 @@
 -- A relation of bytes that every gate keeps, shown once by a table of all values and marks of the pins.
--- Its instances: agreement, the order by marks (gates are monotone in marks), plain values, and that a gate's byte is 0 to 3.
+-- Its instances: agreement, the order by marks (gates are monotone in marks), and that a gate's byte is 0 to 3.
 use Prim.Native.Nat.{ℕ, _≤_}
 use mathlib.Core.Path.{_≡_, refl}
 use mathlib.Core.Bool.{Bool, true, false, _&&_, _||_, not, cond, Bool·beq}
@@ -128,13 +128,6 @@ module _ {R : ℕ → ℕ → Type 0} {r : Test} (table : Table R r) where
 related-to-itself : (r : Test) → T (both (λ v. both (λ t. r v t v t))) → (v t : Bool) → T (r v t v t)
 related-to-itself r h v t = both-at (λ t. r v t v t) (both-at (λ v. both (λ t. r v t v t)) h v) t
 
-value-byte : (v t : Bool) → value (byte v t) ≡ v
-unfolding value byte
-value-byte true true = refl
-value-byte true false = refl
-value-byte false true = refl
-value-byte false false = refl
-
 -- AGREEMENT
 abbrev agrees : Test
 agrees v t w u = Bool·beq t u && (t || Bool·beq v w)
@@ -194,32 +187,6 @@ below-back false t true u h = absurd h
 pub gates-monotone : Gates BelowByte
 unfolding andMark orMark xorMark muxMark
 gates-monotone = gates {r = below} (record { into = below-into; back = below-back; at-not = tt; at-and = tt; at-or = tt; at-xor = tt; at-mux = tt })
-
-pub below-mark : {x y : ℕ} → BelowByte x y → mark y ≡ false → mark x ≡ false
-unfolding mark
-below-mark equal h = h
-below-mark zero-marked h = refl
-below-mark one-marked h = refl
-
--- PLAIN VALUES: a gate's value is that of its pins' values, whatever their marks
-pub record Plain (x y : ℕ) : Type 0 where
-  pub plain : value x ≡ value y
-
-abbrev plainly : Test
-plainly v t w u = Bool·beq v w
-
-plain-into : {x y : ℕ} → Plain x y → T (plainly (value x) (mark x) (value y) (mark y))
-plain-into {x} {y} h = rw (h .plain) (related-to-itself plainly tt (value y) true)
-
-plain-back : (v t w u : Bool) → T (plainly v t w u) → Plain (byte v t) (byte w u)
-plain-back true t true u h = record { plain = simp value-byte }
-plain-back false t false u h = record { plain = simp value-byte }
-plain-back true t false u h = absurd h
-plain-back false t true u h = absurd h
-
-pub gates-plain : Gates Plain
-unfolding andMark orMark xorMark muxMark
-gates-plain = gates {r = plainly} (record { into = plain-into; back = plain-back; at-not = tt; at-and = tt; at-or = tt; at-xor = tt; at-mux = tt })
 
 -- CODES. A property of one byte is a relation that looks at the first byte alone
 abbrev pub Code : ℕ → ℕ → Type 0

@@ -69,7 +69,7 @@ pub decimal-is : (k n : ℕ) → n < 2 ^ 64 → Fewest 10 1 n k → digits 10 k 
 unfolding decimal
 decimal-is k n h f = fewest-digits 20 k n (few-digits k n h f) f
 
--- so is the definition's limit
+-- the definition gives no more digits than its limit
 digits-most : (most n : ℕ) → length (digitsUpTo most n) ≤ most
 unfolding digitsUpTo
 digits-most zero n = omega arith

@@ -9,15 +9,14 @@ use Rattle.tracker.specs.Cycle.{Verdict, clear, flow}
 use Rattle.listing_text.specs.Lines.{space, newline, decimal, numbered, endWord, refusedWord, digit, outputDigits, verdictText, cycleLine, endLine, refusedLine}
 use Rattle.listing_text.proofs.Decimal.{decimal-most}
 
-pub outputs-most : (xs : List ℕ) → length (outputDigits xs) ≤ length xs + 1
-unfolding outputDigits
-outputs-most [] = omega arith
-outputs-most (x ∷ xs) = omega (arith, length-map xs digit)
-
-pub outputs-within : (n : ℕ) (xs : List ℕ) → 1 ≤ n → length xs ≤ n → length (outputDigits xs) ≤ n
+-- a byte for each output, and one where there is none
+outputs-within : (n : ℕ) (xs : List ℕ) → 1 ≤ n → length xs ≤ n → length (outputDigits xs) ≤ n
 unfolding outputDigits
 outputs-within n [] l h = omega arith
 outputs-within n (x ∷ xs) l h = omega (arith, length-map xs digit)
+
+pub outputs-most : (xs : List ℕ) → length (outputDigits xs) ≤ length xs + 1
+outputs-most xs = outputs-within (length xs + 1) xs (omega arith) (omega arith)
 
 pub verdict-most : (v : Verdict) → length (verdictText v) ≤ 25
 verdict-most clear = omega arith

@@ -3,9 +3,9 @@ use Prim.Native.Nat.{ℕ, zero, suc, _*_, _≤_}
 use native.Mathlib.Omega.{arith}
 use native.Mathlib.Nat.{suc-mul}
 use mathlib.Core.Logic.{_↔_}
-use mathlib.Core.Path.{_≡_, sym, _∙_}
+use mathlib.Core.Path.{_≡_, refl, sym, _∙_}
 use mathlib.Core.List.{List}
-use mathlib.Core.Option.{none, some}
+use mathlib.Core.Option.{Option, none, some}
 use mathlib.Core.Bool.{Bool, true, false, cond}
 use lib.Dec.{eqb, lit≤}
 use lib.ListN.{length, take, drop, length-drop}
@@ -19,6 +19,11 @@ use Rattle.netlist.proofs.Checked.{Checked, check-none}
 use Rattle.tracker.specs.Cycle.{clocked, cycleOf, cyclesOf, stateAfter}
 use Rattle.tracker.specs.Calls.{refused, start, starts, powerUpRefusal, powerUpOf, asStep, stepRefusal, stepOf, asRun, runRefusal, runOf}
 use Rattle.tracker.proofs.Cycles.{registers-related, registers-length, codes-cycle}
+
+-- a refusal is given, or none
+pub either-way : {A : Type 0} (o : Option Refusal) → (o ≡ none → A) → ((r : Refusal) → o ≡ some r → A) → A
+either-way none f g = f refl
+either-way (some r) f g = g r refl
 
 -- POWER-UP
 pub power-up-accepted : (s st : List ℕ) → powerUpRefusal s st ≡ none → powerUpOf s st ≡ record { refusal = none; state = starts (netsOf s) }

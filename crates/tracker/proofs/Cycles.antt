@@ -1,26 +1,28 @@
 -- Cycles on related rows and states: a relation of bytes that the gates keep holds of every byte that comes of them.
--- Its instances: agreement, the order by marks, plain values, and codes.
-use Prim.Native.Nat.{ℕ, zero, suc, _+_, _≤_}
+-- Its instances: agreement, and codes.
+use Prim.Native.Nat.{ℕ, zero, suc, _≤_}
 use native.Mathlib.Omega.{arith}
 use mathlib.Core.Path.{_≡_, refl}
 use mathlib.Core.List.{List, [], _∷_, Forall₂, Forall₂·nil, Forall₂·cons}
-use mathlib.Core.Bool.{Bool, true, false, _&&_, cond}
+use mathlib.Core.Bool.{cond}
 use lib.Dec.{eqb, lit≤}
 use lib.ListN.{length, getD}
-use Rattle.gates.specs.Rules.{mark, gateByte}
-use Rattle.gates.specs.Relations.{AgreeByte, same, Agree, BelowByte, equal, Below}
-use Rattle.gates.proofs.Laws.{cond-related, gates-agree, agree-mark, gates-monotone, below-mark, Plain, gates-plain, Code, gates-code}
+use Rattle.gates.specs.Rules.{gateByte}
+use Rattle.gates.specs.Relations.{AgreeByte, same, Agree}
+use Rattle.gates.specs.Kinds.{REG, OUT}
+use Rattle.gates.proofs.Laws.{Gates, gates-agree, agree-mark, Code, gates-code}
 use Rattle.netlist.specs.declared.image.Net.{Net}
 use Rattle.netlist.specs.Image.{count}
 use Rattle.netlist.proofs.Pairs.{pairs-append, pairs-getD, pairs-take, pairs-drop}
 use Rattle.netlist.proofs.Refusals.{Codes}
 use Rattle.netlist.proofs.Checked.{Passes, is-const, is-input, is-reg, is-not, is-and, is-or, is-xor, is-mux, is-out, AllPass, nil, cons}
-use Rattle.tracker.specs.Cycle.{Rule, Walk, pinByte, netByte, past, walk, bytesOf, Verdict, clear, flow, verdictFrom, outputsFrom, registers, clocked, Cycle, cycleOf, cyclesOf, outputsOf, stateAfter}
+use Rattle.tracker.specs.Cycle.{Walk, pinByte, netByte, past, walk, bytesOf, Verdict, verdictFrom, outputsFrom, registers, clocked, Cycle, cycleOf, cyclesOf, outputsOf, stateAfter}
+use Rattle.tracker.proofs.Selections.{outputs-selected, registers-selected, selection-length, selections-related}
 
--- a relation of bytes that a rule keeps
-pub record Kept (R : ℕ → ℕ → Type 0) (rule : Rule) : Type 0 where
+-- a relation of bytes that a CONST's bytes have to themselves, and that the gates keep
+pub record Kept (R : ℕ → ℕ → Type 0) : Type 0 where
   pub const : (a : ℕ) → a ≤ 1 → R a a
-  pub gate : (kind a a′ b b′ c c′ : ℕ) → R a a′ → R b b′ → R c c′ → R (rule kind a b c) (rule kind a′ b′ c′)
+  pub gate : Gates R
 
 pub record WalkRelated (R : ℕ → ℕ → Type 0) (w w′ : Walk) : Type 0 where
   pub bytes : Forall₂ R (w .bytes) (w′ .bytes)
@@ -29,13 +31,9 @@ pub record WalkRelated (R : ℕ → ℕ → Type 0) (w w′ : Walk) : Type 0 whe
 
 pub registers-related : (R : ℕ → ℕ → Type 0) {f g : Net → ℕ} → ((x : Net) → R (f x) (g x)) → (xs : List Net)
     → Forall₂ R (registers f xs) (registers g xs)
-unfolding registers
-registers-related R h [] = Forall₂·nil
-registers-related R h (x ∷ xs) =
-    cond-related (Forall₂ R) (eqb (x .kind) 2) (Forall₂·cons (h x) (registers-related R h xs)) (registers-related R h xs)
+registers-related R {f} {g} h xs = selections-related R (registers-selected f) (registers-selected g) (λ i x. h x) 0 xs
 
--- ANY RULE
-module _ (R : ℕ → ℕ → Type 0) (rule : Rule) (kept : Kept R rule) where
+module _ {R : ℕ → ℕ → Type 0} (kept : Kept R) where
   byte-related : {bs cs : List ℕ} (i : ℕ) → Forall₂ R bs cs → R (getD bs i 0) (getD cs i 0)
   byte-related i h = pairs-getD i 0 (kept .const 0 (lit≤ tt)) h
 
@@ -45,11 +43,11 @@ module _ (R : ℕ → ℕ → Type 0) (rule : Rule) (kept : Kept R rule) where
 
   gate-related : {w w′ : Walk} (k a b c : ℕ) → WalkRelated R w w′
       → R
-      (rule k (pinByte (w .bytes) a) (pinByte (w .bytes) b) (pinByte (w .bytes) c))
-      (rule k (pinByte (w′ .bytes) a) (pinByte (w′ .bytes) b) (pinByte (w′ .bytes) c))
+      (gateByte k (pinByte (w .bytes) a) (pinByte (w .bytes) b) (pinByte (w .bytes) c))
+      (gateByte k (pinByte (w′ .bytes) a) (pinByte (w′ .bytes) b) (pinByte (w′ .bytes) c))
   gate-related k a b c h = kept .gate k _ _ _ _ _ _ (pin-related a (h .bytes)) (pin-related b (h .bytes)) (pin-related c (h .bytes))
 
-  net-related : {n i : ℕ} {x : Net} {w w′ : Walk} → Passes n i x → WalkRelated R w w′ → R (netByte rule x w) (netByte rule x w′)
+  net-related : {n i : ℕ} {x : Net} {w w′ : Walk} → Passes n i x → WalkRelated R w w′ → R (netByte gateByte x w) (netByte gateByte x w′)
   unfolding netByte
   net-related (is-const {a} p) h = kept .const a p
   net-related is-input h = byte-related 0 (h .row)
@@ -61,7 +59,7 @@ module _ (R : ℕ → ℕ → Type 0) (rule : Rule) (kept : Kept R rule) where
   net-related (is-mux {a} {b} {c} p q r) h = gate-related 7 a b c h
   net-related (is-out {a} {b} p q) h = gate-related 8 a b 0 h
 
-  pub past-related : {n i : ℕ} {x : Net} {w w′ : Walk} → Passes n i x → WalkRelated R w w′ → WalkRelated R (past rule x w) (past rule x w′)
+  pub past-related : {n i : ℕ} {x : Net} {w w′ : Walk} → Passes n i x → WalkRelated R w w′ → WalkRelated R (past gateByte x w) (past gateByte x w′)
   unfolding past
   past-related {x = x} p h =
       record {
@@ -70,28 +68,26 @@ module _ (R : ℕ → ℕ → Type 0) (rule : Rule) (kept : Kept R rule) where
         state = pairs-drop (cond (eqb (x .kind) 2) 1 0) (h .state);
       }
 
-  pub walk-related : {n i : ℕ} {xs : List Net} {w w′ : Walk} → AllPass n i xs → WalkRelated R w w′ → WalkRelated R (walk rule xs w) (walk rule xs w′)
+  walk-related : {n i : ℕ} {xs : List Net} {w w′ : Walk} → AllPass n i xs → WalkRelated R w w′
+      → WalkRelated R (walk gateByte xs w) (walk gateByte xs w′)
   unfolding walk
   walk-related nil h = h
   walk-related (cons p ps) h = walk-related ps (past-related p h)
 
-  pub bytes-related :
+  bytes-related :
       {n i : ℕ} {xs : List Net} {row row′ st st′ : List ℕ} → AllPass n i xs → Forall₂ R row row′ → Forall₂ R st st′
-      → Forall₂ R (bytesOf rule xs row st) (bytesOf rule xs row′ st′)
+      → Forall₂ R (bytesOf gateByte xs row st) (bytesOf gateByte xs row′ st′)
   unfolding bytesOf
   bytes-related ps p q = walk-related ps (record { bytes = Forall₂·nil; row = p; state = q }) .bytes
 
-  pub outputs-related : {bs cs : List ℕ} (i : ℕ) (xs : List Net) → Forall₂ R bs cs → Forall₂ R (outputsFrom i xs bs) (outputsFrom i xs cs)
-  unfolding outputsFrom
-  outputs-related i [] h = Forall₂·nil
-  outputs-related i (x ∷ xs) h =
-      cond-related (Forall₂ R) (eqb (x .kind) 8) (Forall₂·cons (byte-related i h) (outputs-related (suc i) xs h)) (outputs-related (suc i) xs h)
+  outputs-related : {bs cs : List ℕ} (i : ℕ) (xs : List Net) → Forall₂ R bs cs → Forall₂ R (outputsFrom i xs bs) (outputsFrom i xs cs)
+  outputs-related {bs} {cs} i xs h = selections-related R (outputs-selected bs) (outputs-selected cs) (λ j x. byte-related j h) i xs
 
-  pub clocked-related : {bs cs : List ℕ} (xs : List Net) → Forall₂ R bs cs → Forall₂ R (clocked xs bs) (clocked xs cs)
+  clocked-related : {bs cs : List ℕ} (xs : List Net) → Forall₂ R bs cs → Forall₂ R (clocked xs bs) (clocked xs cs)
   unfolding clocked
   clocked-related xs h = registers-related R (λ x. pin-related (x .a) h) xs
 
--- THE GATE RULES. Cycles whose bytes are related by R, and their verdicts by Q
+-- CYCLES whose bytes are related by R, and their verdicts by Q
 pub record Related (R : ℕ → ℕ → Type 0) (Q : Verdict → Verdict → Type 0) (c c′ : Cycle) : Type 0 where
   pub bytes : Forall₂ R (c .bytes) (c′ .bytes)
   pub verdict : Q (c .verdict) (c′ .verdict)
@@ -101,17 +97,17 @@ pub record Related (R : ℕ → ℕ → Type 0) (Q : Verdict → Verdict → Typ
 abbrev Judged : (ℕ → ℕ → Type 0) → (Verdict → Verdict → Type 0) → Type 0
 Judged R Q = (i : ℕ) (xs : List Net) (bs cs : List ℕ) → Forall₂ R bs cs → Q (verdictFrom i xs bs) (verdictFrom i xs cs)
 
-module _ {R : ℕ → ℕ → Type 0} {Q : Verdict → Verdict → Type 0} (kept : Kept R gateByte) (judged : Judged R Q)
+module _ {R : ℕ → ℕ → Type 0} {Q : Verdict → Verdict → Type 0} (kept : Kept R) (judged : Judged R Q)
     {n : ℕ} {xs : List Net} (ps : AllPass n 0 xs) where
   cycle-related : {row row′ st st′ : List ℕ} → Forall₂ R row row′ → Forall₂ R st st′ → Related R Q (cycleOf xs row st) (cycleOf xs row′ st′)
   unfolding cycleOf
   cycle-related p q =
-      let b = bytes-related R gateByte kept ps p q in
+      let b = bytes-related kept ps p q in
       record {
         bytes = b;
         verdict = judged 0 xs _ _ b;
-        outputs = outputs-related R gateByte kept 0 xs b;
-        state = clocked-related R gateByte kept xs b;
+        outputs = outputs-related kept 0 xs b;
+        state = clocked-related kept xs b;
       }
 
   cycles-related : (i k : ℕ) {rows rows′ st st′ : List ℕ} → Forall₂ R rows rows′ → Forall₂ R st st′
@@ -133,7 +129,7 @@ module _ {R : ℕ → ℕ → Type 0} {Q : Verdict → Verdict → Type 0} where
   state-after-related q (Forall₂·cons h t) = state-after-related (h .state) t
 
 -- AGREEMENT: the verdicts are equal
-agree-kept : Kept AgreeByte gateByte
+agree-kept : Kept AgreeByte
 agree-kept = record { const = λ a h. same; gate = gates-agree }
 
 agree-verdict : Judged AgreeByte _≡_
@@ -142,7 +138,7 @@ agree-verdict i [] bs cs h = refl
 agree-verdict i (x ∷ xs) bs cs h = rw (agree-mark (pairs-getD i 0 same h), agree-verdict (suc i) xs bs cs h)
 
 pub agree-outputs : {bs cs : List ℕ} (i : ℕ) (xs : List Net) → Agree bs cs → Agree (outputsFrom i xs bs) (outputsFrom i xs cs)
-agree-outputs = outputs-related AgreeByte gateByte agree-kept
+agree-outputs = outputs-related agree-kept
 
 module _ {n : ℕ} {xs : List Net} (ps : AllPass n 0 xs) where
   pub agree-cycle : {row row′ st st′ : List ℕ} → Agree row row′ → Agree st st′ → Related AgreeByte _≡_ (cycleOf xs row st) (cycleOf xs row′ st′)
@@ -152,63 +148,20 @@ module _ {n : ℕ} {xs : List Net} (ps : AllPass n 0 xs) where
       → Forall₂ (Related AgreeByte _≡_) (cyclesOf xs i k rows st) (cyclesOf xs i k rows′ st′)
   agree-cycles = cycles-related agree-kept agree-verdict ps
 
--- THE ORDER BY MARKS: fewer marks in, fewer marks out, and a flow only where there was one
-pub record Clearer (v w : Verdict) : Type 0 where
-  pub clearer : w ≡ clear → v ≡ clear
-
-clearer-cond : (i : ℕ) (t u : Bool) {v w : Verdict} → (u ≡ false → t ≡ false) → Clearer v w → Clearer (cond t (flow i) v) (cond u (flow i) w)
-clearer-cond i true true h k = record { clearer = λ e. e }
-clearer-cond i true false h k = let e = h refl in record { clearer = λ f. cc }
-clearer-cond i false true h k = record { clearer = λ e. cc }
-clearer-cond i false false h k = k
-
-and-below : (p t u : Bool) → (u ≡ false → t ≡ false) → (p && u) ≡ false → (p && t) ≡ false
-and-below true t u h e = h e
-and-below false t u h e = refl
-
-below-kept : Kept BelowByte gateByte
-below-kept = record { const = λ a h. equal; gate = gates-monotone }
-
-below-verdict : Judged BelowByte Clearer
-unfolding verdictFrom
-below-verdict i [] bs cs h = record { clearer = λ e. refl }
-below-verdict i (x ∷ xs) bs cs h =
-    clearer-cond i (eqb (x .kind) 8 && eqb (x .b) 1 && mark (getD bs i 0)) (eqb (x .kind) 8 && eqb (x .b) 1 && mark (getD cs i 0))
-    (and-below (eqb (x .kind) 8 && eqb (x .b) 1) (mark (getD bs i 0)) (mark (getD cs i 0)) (below-mark (pairs-getD i 0 equal h)))
-    (below-verdict (suc i) xs bs cs h)
-
-pub below-cycles : {n : ℕ} {xs : List Net} → AllPass n 0 xs → (i k : ℕ) {rows rows′ st st′ : List ℕ} → Below rows rows′ → Below st st′
-    → Forall₂ (Related BelowByte Clearer) (cyclesOf xs i k rows st) (cyclesOf xs i k rows′ st′)
-below-cycles ps = cycles-related below-kept below-verdict ps
-
--- PLAIN VALUES do not depend on marks
-pub plain-cycles : {n : ℕ} {xs : List Net} → AllPass n 0 xs → (i k : ℕ) {rows rows′ st st′ : List ℕ} → Forall₂ Plain rows rows′ → Forall₂ Plain st st′
-    → Forall₂ (Related Plain (λ v w. Unit {0})) (cyclesOf xs i k rows st) (cyclesOf xs i k rows′ st′)
-plain-cycles ps =
-    cycles-related {Q = λ v w. Unit {0}} (record { const = λ a h. record { plain = refl }; gate = gates-plain }) (λ i xs bs cs h. tt) ps
-
 -- CODES: a cycle's bytes are 0 to 3 where its row's and its state's are
-pub code-kept : Kept Code gateByte
+pub code-kept : Kept Code
 code-kept = record { const = λ a h. omega arith; gate = gates-code }
 
 pub codes-outputs : {bs : List ℕ} (i : ℕ) (xs : List Net) → Codes bs → Codes (outputsFrom i xs bs)
-codes-outputs = outputs-related Code gateByte code-kept
+codes-outputs = outputs-related code-kept
 
 pub codes-cycle : {n : ℕ} {xs : List Net} {row st : List ℕ} → AllPass n 0 xs → Codes row → Codes st
     → Related Code (λ v w. Unit {0}) (cycleOf xs row st) (cycleOf xs row st)
 codes-cycle ps = cycle-related {Q = λ v w. Unit {0}} code-kept (λ i xs bs cs h. tt) ps
 
--- LENGTHS. A list that takes one element for each net of a kind is as long as their count
-counted : (c : Bool) (y : ℕ) (ys : List ℕ) {n : ℕ} → length ys ≡ n → length (cond c (y ∷ ys) ys) ≡ cond c 1 0 + n
-counted true y ys h = omega (arith, h)
-counted false y ys h = omega (arith, h)
+-- LENGTHS
+pub registers-length : (f : Net → ℕ) (xs : List Net) → length (registers f xs) ≡ count REG xs
+registers-length f xs = selection-length (registers-selected f) 0 xs
 
-pub registers-length : (f : Net → ℕ) (xs : List Net) → length (registers f xs) ≡ count 2 xs
-unfolding registers count
-registers-length f [] = refl
-registers-length f (x ∷ xs) = counted (eqb (x .kind) 2) _ _ (registers-length f xs)
-
-pub outputs-length : (i : ℕ) (xs : List Net) (bs : List ℕ) → length (outputsFrom i xs bs) ≡ count 8 xs
-unfolding outputsFrom count
-outputs-length i [] bs = refl
-outputs-length i (x ∷ xs) bs = counted (eqb (x .kind) 8) _ _ (outputs-length (suc i) xs bs)
+pub outputs-length : (i : ℕ) (xs : List Net) (bs : List ℕ) → length (outputsFrom i xs bs) ≡ count OUT xs
+outputs-length i xs bs = selection-length (outputs-selected bs) i xs

@@ -1,19 +1,21 @@
 -- Filling a lent buffer in order: what stands in it already, and what is left to write.
-use Prim.Native.Nat.{ℕ, suc, _+_, _≤_, _<_}
+use Prim.Native.Nat.{ℕ, _+_, _*_, _≤_, _<_}
 use native.Mathlib.Numerals.{add-one}
 use native.Mathlib.Omega.{arith}
 use mathlib.Core.Path.{_≡_, refl, sym, ap, _∙_}
 use mathlib.Core.List.{List, [], _∷_, _++_, append-assoc, append-nil}
 use mathlib.Core.Bool.{cond}
 use lib.Dec.{eqb}
-use lib.ListN.{length, getD, take, drop, set, length-append, length-drop}
+use lib.ListN.{length, take, drop, set, length-append, length-drop, length-set}
 use lib.Seq.{length-take-le, set-split, take-at, take-all}
 use borrow.Author.Tests.{eq-eqb, ne-eqb}
-use Rattle.gates.specs.Kinds.{REG, OUT}
 use Rattle.netlist.specs.declared.image.Net.{Net}
-use Rattle.netlist.specs.Image.{kindAt, netAt}
-use Rattle.netlist.proofs.Nets.{netsLeft, nets-next, nets-done}
-use Rattle.tracker.specs.Cycle.{outputsFrom, registers}
+use Rattle.netlist.specs.Image.{sizesOf, kindAt, netAt, netsOf, count}
+use Rattle.netlist.proofs.Nets.{netsLeft, nets-next, nets-done, nets-left}
+use Rattle.netlist.proofs.Checked.{Checked}
+use Rattle.tracker.specs.Passes.{NoneBelow}
+use Rattle.tracker.proofs.Selections.{Selection, selection-length}
+use Rattle.tracker.proofs.Skipping.{selection-from}
 
 -- of the whole, the first j bytes stand in the buffer, and the rest is left
 pub record Filled (whole buffer : List ℕ) (j : ℕ) (left : List ℕ) : Type 0 where
@@ -41,38 +43,59 @@ fill-goes-on {buffer = buffer} {j} {y} {left} f =
     let h : j < length buffer = omega (arith, f .room) in
     rw (set-split buffer j y h, ← add-one j) (fill-part (y ∷ []) f)
 
-pub fill-room : {whole buffer : List ℕ} {j : ℕ} {y : ℕ} {left : List ℕ} → Filled whole buffer j (y ∷ left) → j < length buffer
-fill-room f = omega (arith, f .room)
-
 pub fill-length : {whole buffer : List ℕ} {j : ℕ} {left : List ℕ} → Filled whole buffer j left → length buffer ≡ length whole
 fill-length {buffer = buffer} {j} f = rw (f .whole-is, length-append, length-take-le j buffer (omega (arith, f .room))) (sym (f .room))
 
 pub fill-ends : {whole buffer : List ℕ} {j : ℕ} → Filled whole buffer j [] → buffer ≡ whole
 fill-ends {buffer = buffer} {j} f = sym (f .whole-is ∙ rw append-nil (take-all j buffer (omega (arith, f .room))))
 
--- a list with a byte for each net of kind k, in net order, from some net on
-pub record Selection (k : ℕ) (list : ℕ → List Net → List ℕ) (byte : ℕ → Net → ℕ) : Type 0 where
-  pub none : (i : ℕ) → list i [] ≡ []
-  pub next : (i : ℕ) (x : Net) (xs : List Net) → list i (x ∷ xs) ≡ cond (eqb (x .kind) k) (byte i x ∷ list (suc i) xs) (list (suc i) xs)
+-- A PASS over the nets that fills a lent buffer with a selection: it has come to net i, and the bytes of the nets below it stand
+pub record Pass {k : ℕ} {list : ℕ → List Net → List ℕ} {byte : ℕ → Net → ℕ} (selection : Selection k list byte)
+    (s : List ℕ) (n : ℕ) (lent buffer : List ℕ) (j i : ℕ) : Type 0 where
+  pub count-is : n ≡ sizesOf s .nets
+  pub exact : length s ≡ 8 + 7 * n
+  pub upto : i ≤ n
+  pub bytes : Filled (list 0 (netsOf s)) buffer j (list i (netsLeft s n i))
+  pub size : length buffer ≡ length lent
 
-pub outputs-selected : (bs : List ℕ) → Selection OUT (λ i xs. outputsFrom i xs bs) (λ i x. getD bs i 0)
-unfolding outputsFrom
-outputs-selected bs = record { none = λ i. refl; next = λ i x xs. refl }
+-- it may start at any net below which there is none of the kind
+pub pass-begins : {k : ℕ} {list : ℕ → List Net → List ℕ} {byte : ℕ → Net → ℕ} (selection : Selection k list byte)
+    {s : List ℕ} {n : ℕ} {lent : List ℕ} {from : ℕ} → Checked s → n ≡ sizesOf s .nets → length lent ≡ count k (netsOf s) → from ≤ n → NoneBelow k s from
+    → Pass selection s n lent lent 0 from
+pass-begins selection {s} {n} image e size h none =
+    record {
+      count-is = e;
+      exact = rw e (image .exact);
+      upto = h;
+      bytes = fill-begins (rw (← nets-left s n e) (selection-from s n _ h selection none)) (selection-length selection 0 (netsOf s) ∙ sym size);
+      size = refl;
+    }
 
-pub registers-selected : (f : Net → ℕ) → Selection REG (λ i xs. registers f xs) (λ i x. f x)
-unfolding registers
-registers-selected f = record { none = λ i. refl; next = λ i x xs. refl }
+module _ {k : ℕ} {list : ℕ → List Net → List ℕ} {byte : ℕ → Net → ℕ} {selection : Selection k list byte}
+    {s : List ℕ} {n : ℕ} {lent buffer : List ℕ} {j i : ℕ} (p : Pass selection s n lent buffer j i) where
+  -- with net i before it, whose kind was read
+  module _ (below : i < n) where
+    this-net : list i (netsLeft s n i) ≡ cond (eqb (kindAt s i) k) (byte i (netAt s n i) ∷ list (i + 1) (netsLeft s n (i + 1))) (list (i + 1) (netsLeft s n (i + 1)))
+    unfolding netAt
+    this-net = rw (nets-next s n i below, selection .next i (netAt s n i) (netsLeft s n (i + 1)), ← add-one i)
 
--- a buffer that is filled so, at net i, whose kind was read
-module _ {k : ℕ} {list : ℕ → List Net → List ℕ} {byte : ℕ → Net → ℕ} (selection : Selection k list byte)
-    (s : List ℕ) (n i : ℕ) {whole buffer : List ℕ} {j : ℕ} (f : Filled whole buffer j (list i (netsLeft s n i))) where
-  pub selects : i < n → kindAt s i ≡ k → Filled whole buffer j (byte i (netAt s n i) ∷ list (i + 1) (netsLeft s n (i + 1)))
-  unfolding netAt
-  selects h e = rw (nets-next s n i h, selection .next i (netAt s n i) (netsLeft s n (i + 1)), eq-eqb (kindAt s i) k e, ← add-one i) at f
+    -- what `operand_of` asks
+    pub pass-reads : (k : ℕ) → k < 3 → (i < sizesOf s .nets) × (k < 3) × (length s ≡ 8 + 7 * sizesOf s .nets)
+    pass-reads k h = rw (← p .count-is) (below, h, p .exact)
 
-  pub passes-over : i < n → (kindAt s i ≡ k → ⊥) → Filled whole buffer j (list (i + 1) (netsLeft s n (i + 1)))
-  unfolding netAt
-  passes-over h e = rw (nets-next s n i h, selection .next i (netAt s n i) (netsLeft s n (i + 1)), ne-eqb (kindAt s i) k e, ← add-one i) at f
+    module _ (this : kindAt s i ≡ k) where
+      takes : Filled (list 0 (netsOf s)) buffer j (byte i (netAt s n i) ∷ list (i + 1) (netsLeft s n (i + 1)))
+      takes = rw (this-net, eq-eqb (kindAt s i) k this) at (p .bytes)
 
-  pub selected : n ≤ i → buffer ≡ whole
-  selected h = fill-ends (rw (nets-done s n i (omega arith), selection .none i) at f)
+      pub pass-room : j < length buffer
+      pass-room = omega (arith, takes .room)
+
+      pub pass-takes : Pass selection s n lent (set buffer j (byte i (netAt s n i))) (j + 1) (i + 1)
+      pass-takes = record { count-is = p .count-is; exact = p .exact; upto = omega arith; bytes = fill-goes-on takes; size = rw length-set (p .size) }
+
+    pub pass-skips : (kindAt s i ≡ k → ⊥) → Pass selection s n lent buffer j (i + 1)
+    pass-skips other = record { count-is = p .count-is; exact = p .exact; upto = omega arith; bytes = rw (this-net, ne-eqb (kindAt s i) k other) at (p .bytes); size = p .size }
+
+  -- with none
+  pub pass-ends : n ≤ i → buffer ≡ list 0 (netsOf s)
+  pass-ends h = fill-ends (rw (nets-done s n i (omega arith), selection .none i) at (p .bytes))

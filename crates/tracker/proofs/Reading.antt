@@ -1,5 +1,5 @@
 -- The byte of net i, by what code reads for it: a code of the table for a gate or OUT, a row byte, a state byte, or a constant.
-use Prim.Native.Nat.{ℕ, zero, suc, _≤_, _<_}
+use Prim.Native.Nat.{ℕ, zero, suc, _+_, _*_, _≤_, _<_}
 use native.Mathlib.Omega.{arith}
 use native.Mathlib.Nat.{add-zero}
 use mathlib.Core.Logic.{_⊎_, inl, inr}
@@ -76,24 +76,24 @@ pin-below c e i h k = register-pin (net-passes c e i h) k
 
 -- with all that is asked of the bytes, for net i of n
 module _ {s : List ℕ} {n : ℕ} {row state nets : List ℕ} {i inputs registers : ℕ}
-    (r : Readable s n row state nets i inputs registers) (below : i < n) (size : length nets ≡ n) where
+    (asked : ((i < n) × (length s ≡ 8 + 7 * n) × (length nets ≡ n)) × Readable s n row state nets i inputs registers) where
   pub gate : 3 ≤ kindAt s i → Gate i (net (kindAt s i) (operandAt s n i 0) (operandAt s n i 1) (operandAt s n i 2))
   unfolding netAt
-  gate h = gate-reads (passes n i (netAt s n i) (r .passes)) h
+  gate h = gate-reads (passes n i (netAt s n i) (asked .1 .passes)) h
 
   -- an operand that is read: it is in range, the byte there is a code, and it is the byte that the pin reads
-  pub in-range : {p : ℕ} → Read i p → p < n
+  pub in-range : {p : ℕ} → Read i p → p < length nets
   in-range (inl l) = omega arith
   in-range (inr e) = omega arith
 
   pub code-at : {p : ℕ} → Read i p → getD nets p 0 < 4
-  code-at {p} (inl l) = r .codes p l
-  code-at {p} (inr e) = rw (e .1, r .second (omega arith)) (lit< tt)
+  code-at {p} (inl l) = asked .1 .codes p l
+  code-at {p} (inr e) = rw (e .1, asked .1 .second (omega arith)) (lit< tt)
 
   pin-at : {p : ℕ} → Read i p → pinByte (take i nets) p ≡ getD nets p 0
   unfolding pinByte
   pin-at {p} (inl l) = getD-take i nets p 0 l
-  pin-at {p} (inr e) = rw (e .0, e .1, r .second (omega arith)) (List·getD-eq-default (take 1 nets) 0 (rw length-take (omega arith)))
+  pin-at {p} (inr e) = rw (e .0, e .1, asked .1 .second (omega arith)) (List·getD-eq-default (take 1 nets) 0 (rw length-take (omega arith)))
 
   pub gate-byte : 3 ≤ kindAt s i
       → netByte gateByte (netAt s n i) (walkAt row state nets i inputs registers)
@@ -117,4 +117,4 @@ module _ {s : List ℕ} {n : ℕ} {row state nets : List ℕ} {i inputs register
 
   pub is-const-value : kindAt s i < 3 → (kindAt s i ≡ INPUT → ⊥) → (kindAt s i ≡ REG → ⊥) → (kindAt s i ≡ CONST) × (operandAt s n i 0 ≤ 1)
   unfolding netAt
-  is-const-value h f g = const-value (passes n i (netAt s n i) (r .passes)) h f g
+  is-const-value h f g = const-value (passes n i (netAt s n i) (asked .1 .passes)) h f g

@@ -16,7 +16,7 @@ use Rattle.tracker.proofs.Cycles.{outputs-length}
 use Rattle.tracker.proofs.Calls.{Ready, run-none, first-ready, rest-ready}
 use Rattle.tracker.proofs.Filling.{Filled, fill-begins, fill-part, fill-length, fill-ends}
 
--- NUMBERS. Cycles times bytes of a cycle, which no number of the code falls short of
+-- NUMBERS. Cycles times bytes of a cycle: the product fits a u64
 pub product-fits : {k m : ℕ} → k ≤ 4096 → m ≤ 8192 → k * m < 2 ^ 64
 product-fits h l = let p = mul-le-mul h l in omega arith
 

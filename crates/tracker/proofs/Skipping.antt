@@ -13,7 +13,7 @@ use Rattle.netlist.specs.Image.{netAt}
 use Rattle.netlist.proofs.Nets.{netsLeft, nets-next}
 use Rattle.tracker.specs.Cycle.{verdictFrom}
 use Rattle.tracker.specs.Passes.{NoneBelow}
-use Rattle.tracker.proofs.Filling.{Selection}
+use Rattle.tracker.proofs.Selections.{Selection}
 
 -- a function of the nets from some net on, that passes over every net of another kind than k
 abbrev Passing : {A : Type 0} (k : ℕ) → (ℕ → List Net → A) → Type 0

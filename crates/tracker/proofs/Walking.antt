@@ -89,7 +89,7 @@ module _ {s : List ℕ} {n : ℕ} {row state nets : List ℕ} {i inputs register
             upto = below;
             size = length-set nets i b ∙ w .size;
             all = w .all ∙ rw (nets-next s n i below, add-one i, further);
-            codes = rw further at (past-related Code gateByte code-kept this-passes (w .codes));
+            codes = rw further at (past-related code-kept this-passes (w .codes));
             of-inputs = omega (arith, this-count INPUT, w .of-inputs);
             of-registers = omega (arith, this-count REG, w .of-registers);
             second = λ h. getD-set-other nets i 1 b 0 (λ e. omega arith) ∙ w .second (omega arith);

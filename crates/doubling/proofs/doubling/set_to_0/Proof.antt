@@ -21,9 +21,6 @@ long c = fill-length (c .loop .inv .1) ∙ length-replicate _ _
 loop-holds : tie.Need-loop-holds Inv-loop μ-loop
 loop-holds c = (omega arith, fill-begins (let e : length (c .args .d .now) - 0 ≡ length (c .args .d .now) = omega arith in rw e) (length-replicate _ _))
 
-slice-write-d : tie.Need-slice-write-d Inv-loop μ-loop
-slice-write-d c = search needs
-
 loop-less : tie.Need-loop-less Inv-loop μ-loop
 loop-less c = let h = c .loop-test .taken in omega (arith, long (c .before), h)
 
@@ -48,4 +45,4 @@ returns c =
 pub set-to-0-spec : {M : Type 1} → statement M
 set-to-0-spec =
     tie.close
-    (tie.spec Inv-loop μ-loop loop-holds slice-write-d (λ c. search needs) loop-less loop-again same-length returns)
+    (tie.spec Inv-loop μ-loop loop-holds (λ c. search needs) (λ c. search needs) loop-less loop-again same-length returns)

@@ -4,15 +4,7 @@ use Rattle.doubling.proofs.group.and_group.Statement.{statement}
 use Rattle.doubling.proofs.group.and_group.Tie as tie
 
 returns : tie.Need-returns
-returns c =
-    rw (
-      c .net7 .ensures,
-      c .before .net6 .ensures,
-      c .before .before .net5 .ensures,
-      c .before .before .before .net4 .ensures,
-      c .before .before .before .before .net3 .ensures,
-      c .before .before .before .before .before .net2 .ensures,
-    )
+returns c = cc
 
 pub and-group-spec : {M : Type 1} → statement M
 and-group-spec =

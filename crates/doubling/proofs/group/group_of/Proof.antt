@@ -7,38 +7,6 @@ use Rattle.doubling.specs.Doubled.{groupLengths, groupLength}
 use Rattle.doubling.proofs.group.group_of.Statement.{statement}
 use Rattle.doubling.proofs.group.group_of.Tie as tie
 
-returns : tie.Need-returns
-unfolding groupLength groupLengths
-returns c = rw (c .before .match .keys1) (c .const-group .ensures)
-
-returns-2 : tie.Need-returns-2
-unfolding groupLength groupLengths
-returns-2 c = rw (c .before .match .keys2) (c .input-group .ensures)
-
-returns-3 : tie.Need-returns-3
-unfolding groupLength groupLengths
-returns-3 c = rw (c .before .match .keys3) (c .reg-group .ensures)
-
-returns-4 : tie.Need-returns-4
-unfolding groupLength groupLengths
-returns-4 c = rw (c .before .match .keys4) (c .not-group .ensures)
-
-returns-5 : tie.Need-returns-5
-unfolding groupLength groupLengths
-returns-5 c = rw (c .before .match .keys5) (c .and-group .ensures)
-
-returns-6 : tie.Need-returns-6
-unfolding groupLength groupLengths
-returns-6 c = rw (c .before .match .keys6) (c .or-group .ensures)
-
-returns-7 : tie.Need-returns-7
-unfolding groupLength groupLengths
-returns-7 c = rw (c .before .match .keys7) (c .xor-group .ensures)
-
-returns-8 : tie.Need-returns-8
-unfolding groupLength groupLengths
-returns-8 c = rw (c .before .match .keys8) (c .mux-group .ensures)
-
 -- none of four numbers, and so beyond them
 beyond : (m k : ℕ) → m ≤ k → (k ≡ m → ⊥) → (k ≡ m + 1 → ⊥) → (k ≡ m + 2 → ⊥) → (k ≡ m + 3 → ⊥) → m + 4 ≤ k
 beyond m k h a b c d = omega arith
@@ -69,12 +37,12 @@ group-of-spec =
     (λ c κs. search needs)
     (λ c κs. search needs)
     (λ c κs. search needs)
-    returns
-    returns-2
-    returns-3
-    returns-4
-    returns-5
-    returns-6
-    returns-7
-    returns-8
+    (λ c. unfold groupLength groupLengths in rw (c .before .match .keys1) (c .const-group .ensures))
+    (λ c. unfold groupLength groupLengths in rw (c .before .match .keys2) (c .input-group .ensures))
+    (λ c. unfold groupLength groupLengths in rw (c .before .match .keys3) (c .reg-group .ensures))
+    (λ c. unfold groupLength groupLengths in rw (c .before .match .keys4) (c .not-group .ensures))
+    (λ c. unfold groupLength groupLengths in rw (c .before .match .keys5) (c .and-group .ensures))
+    (λ c. unfold groupLength groupLengths in rw (c .before .match .keys6) (c .or-group .ensures))
+    (λ c. unfold groupLength groupLengths in rw (c .before .match .keys7) (c .xor-group .ensures))
+    (λ c. unfold groupLength groupLengths in rw (c .before .match .keys8) (c .mux-group .ensures))
     returns-9)

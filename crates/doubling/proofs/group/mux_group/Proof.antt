@@ -4,16 +4,7 @@ use Rattle.doubling.proofs.group.mux_group.Statement.{statement}
 use Rattle.doubling.proofs.group.mux_group.Tie as tie
 
 returns : tie.Need-returns
-returns c =
-    rw (
-      c .before .net7 .ensures,
-      c .before .before .net6 .ensures,
-      c .before .before .before .net5 .ensures,
-      c .before .before .before .before .net4 .ensures,
-      c .before .before .before .before .before .net3 .ensures,
-      c .before .before .before .before .before .before .net2 .ensures,
-      c .before .before .before .before .before .before .before .net .ensures,
-    )
+returns c = cc
 
 pub mux-group-spec : {M : Type 1} → statement M
 mux-group-spec =

@@ -58,29 +58,8 @@ next c =
 room : (c : tie.After-kind-of Inv-loop μ-loop Inv-loop2 μ-loop2) → c .before .before .loop .i + 1 < 8193
 room c = let begin = c .before .before .before .before .before in omega (arith, c .before .loop-test .taken, begin .pre .1, checked begin .few-nets)
 
-cast-size : tie.Need-cast-size Inv-loop μ-loop Inv-loop2 μ-loop2
-cast-size c = omega (arith, kind c)
-
-mul-size : tie.Need-mul-size Inv-loop μ-loop Inv-loop2 μ-loop2
-mul-size c = omega (arith, kind c)
-
-array-read-size : tie.Need-array-read-size Inv-loop μ-loop Inv-loop2 μ-loop2
-array-read-size c = kind c
-
 add-size : tie.Need-add-size Inv-loop μ-loop Inv-loop2 μ-loop2
 add-size c = let at = c .before .before in omega (arith, next c, starts-fit (checked (at .before .before .before)) (at .loop .i + 1))
-
-add-i : tie.Need-add-i Inv-loop μ-loop Inv-loop2 μ-loop2
-add-i c = search needs
-
-mul-starts : tie.Need-mul-starts Inv-loop μ-loop Inv-loop2 μ-loop2
-mul-starts c = omega (arith, room c)
-
-array-write-starts : tie.Need-array-write-starts Inv-loop μ-loop Inv-loop2 μ-loop2
-array-write-starts c = room c
-
-loop-less : tie.Need-loop-less Inv-loop μ-loop Inv-loop2 μ-loop2
-loop-less c = search needs
 
 loop-again : tie.Need-loop-again Inv-loop μ-loop Inv-loop2 μ-loop2
 loop-again c =
@@ -104,18 +83,6 @@ loop2-holds c =
     let few = checked begin .few-nets in
     let inv = at .loop .inv in
     (omega (arith, c .loop-test .left), omega (arith, inv .0, n, few), inv .1, inv .2 ∙ value-end xs (at .loop .i) (omega (arith, c .loop-test .left, n, long)), inv .3)
-
-add-i-2 : tie.Need-add-i-2 Inv-loop μ-loop Inv-loop2 μ-loop2
-add-i-2 c = search needs
-
-mul-starts-2 : tie.Need-mul-starts-2 Inv-loop μ-loop Inv-loop2 μ-loop2
-mul-starts-2 c = search needs
-
-array-write-starts-2 : tie.Need-array-write-starts-2 Inv-loop μ-loop Inv-loop2 μ-loop2
-array-write-starts-2 c = search needs
-
-loop2-less : tie.Need-loop2-less Inv-loop μ-loop Inv-loop2 μ-loop2
-loop2-less c = search needs
 
 loop2-again : tie.Need-loop2-again Inv-loop μ-loop Inv-loop2 μ-loop2
 loop2-again c =
@@ -147,19 +114,19 @@ starts-of-spec =
     (λ c κs. search needs)
     loop-holds
     kind-of-requires
-    cast-size
-    mul-size
-    array-read-size
+    (λ c. omega (arith, kind c))
+    (λ c. omega (arith, kind c))
+    (λ c. kind c)
     add-size
-    add-i
-    mul-starts
-    array-write-starts
-    loop-less
+    (λ c. search needs)
+    (λ c. omega (arith, room c))
+    (λ c. room c)
+    (λ c. search needs)
     loop-again
     loop2-holds
-    add-i-2
-    mul-starts-2
-    array-write-starts-2
-    loop2-less
+    (λ c. search needs)
+    (λ c. search needs)
+    (λ c. search needs)
+    (λ c. search needs)
     loop2-again
     returns)

@@ -31,24 +31,6 @@ rows c = div-mul-le-self 65536 (c .args .z .inputs)
 mul-n : tie.Need-mul-n
 mul-n c = record { fits = omega (arith, rows (c .before .before .before .before .before)) }
 
-array-borrow-prefix-state : tie.Need-array-borrow-prefix-state
-array-borrow-prefix-state c = few-registers (c .before .before .before .before .before)
-
-slice-aggregate-take-input : tie.Need-slice-aggregate-take-input
-slice-aggregate-take-input c = sym (length-take-le _ _ (few-registers (c .before .before .before .before .before .before)))
-
-array-borrow-prefix-outputs : tie.Need-array-borrow-prefix-outputs
-array-borrow-prefix-outputs c = few-outputs (c .before .before .before .before .before .before)
-
-slice-aggregate-take-input-2 : tie.Need-slice-aggregate-take-input-2
-slice-aggregate-take-input-2 c = sym (length-take-le _ _ (few-outputs (c .before .before .before .before .before .before .before)))
-
-array-borrow-prefix-rows : tie.Need-array-borrow-prefix-rows
-array-borrow-prefix-rows c = rows (c .before .before .before .before .before .before .before)
-
-slice-aggregate-take-input-3 : tie.Need-slice-aggregate-take-input-3
-slice-aggregate-take-input-3 c = sym (length-take-le _ _ (rows (c .before .before .before .before .before .before .before .before)))
-
 part-most : (m n : ℕ) (l : List ℕ) → n ≤ length l → n ≤ m → length (take n l) ≤ m
 part-most m n l h k = rw (length-take-le n l h) k
 
@@ -68,12 +50,12 @@ list-accepted-spec =
     (λ c. search needs)
     (λ c. search needs)
     mul-n
-    array-borrow-prefix-state
-    slice-aggregate-take-input
-    array-borrow-prefix-outputs
-    slice-aggregate-take-input-2
-    array-borrow-prefix-rows
-    slice-aggregate-take-input-3
+    (λ c. few-registers (c .before .before .before .before .before))
+    (λ c. sym (length-take-le _ _ (few-registers (c .before .before .before .before .before .before))))
+    (λ c. few-outputs (c .before .before .before .before .before .before))
+    (λ c. sym (length-take-le _ _ (few-outputs (c .before .before .before .before .before .before .before))))
+    (λ c. rows (c .before .before .before .before .before .before .before))
+    (λ c. sym (length-take-le _ _ (rows (c .before .before .before .before .before .before .before .before))))
     (λ c. search needs)
     take-input-requires
     (λ c. search needs))

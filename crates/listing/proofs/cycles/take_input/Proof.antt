@@ -5,7 +5,7 @@ use mathlib.Core.Path.{_≡_, refl, _∙_}
 use lib.ListN.{length}
 use borrow.Author.Needs.{needs}
 use borrow.Author.Tests.{ltb-true}
-use Rattle.listing.proofs.Both.{second}
+use Rattle.gates.proofs.EachCode.{both}
 use Rattle.listing.proofs.cycles.take_input.Statement.{statement}
 use Rattle.listing.proofs.cycles.take_input.Tie as tie
 
@@ -21,12 +21,9 @@ Inv-loop image inputs state₀ outputs₀ rows₀ text₀ p₀ reads₀ state ou
 abbrev μ-loop : tie.MeasureT-loop
 μ-loop image inputs state₀ outputs₀ rows₀ text₀ p₀ reads₀ state outputs rows text p reads = 140737488355328 - reads
 
-loop-holds : tie.Need-loop-holds Inv-loop μ-loop
-loop-holds c = (refl, refl, refl, refl, omega arith, omega arith)
-
 -- another read is made
 more : (c : tie.Then1 Inv-loop μ-loop) → c .before .before .loop .reads < 140737488355328
-more c = ltb-true _ _ (second (c .before .before .loop .p .open) _ (c .if1 .taken))
+more c = ltb-true _ _ (both (c .before .before .loop .p .open) _ (c .if1 .taken) .1)
 
 take-some-requires : tie.Need-take-some-requires Inv-loop μ-loop
 take-some-requires c κs =
@@ -64,15 +61,6 @@ loop-again c =
 same-length : tie.Need-same-length Inv-loop μ-loop
 same-length c = let at = c .before .before in at .loop .inv .0 ∙ at .before .before .before .power-up .kept .1 .0
 
-same-length-2 : tie.Need-same-length-2 Inv-loop μ-loop
-same-length-2 c = c .before .before .loop .inv .1
-
-same-length-3 : tie.Need-same-length-3 Inv-loop μ-loop
-same-length-3 c = c .before .before .loop .inv .2
-
-same-length-4 : tie.Need-same-length-4 Inv-loop μ-loop
-same-length-4 c = c .before .before .loop .inv .3
-
 pub take-input-spec : {M : Type 1} → statement M
 take-input-spec =
     tie.close
@@ -80,13 +68,13 @@ take-input-spec =
     Inv-loop
     μ-loop
     (λ c κs. search needs)
-    loop-holds
+    (λ c. (refl, refl, refl, refl, omega arith, omega arith))
     take-some-requires
     add-reads
     loop-less
     loop-again
     same-length
-    same-length-2
-    same-length-3
-    same-length-4
+    (λ c. c .before .before .loop .inv .1)
+    (λ c. c .before .before .loop .inv .2)
+    (λ c. c .before .before .loop .inv .3)
     (λ c. search needs))

@@ -4,7 +4,7 @@ use native.Mathlib.Omega.{arith}
 use mathlib.Core.Path.{_≡_, refl, _∙_}
 use lib.ListN.{length}
 use borrow.Author.Tests.{leb-true}
-use Rattle.listing.proofs.Both.{second}
+use Rattle.gates.proofs.EachCode.{both}
 use Rattle.listing.proofs.cycles.take_rows.Statement.{statement}
 use Rattle.listing.proofs.cycles.take_rows.Tie as tie
 
@@ -25,9 +25,6 @@ loop-holds c =
     let start = c .before .before .before .before .before in
     (refl, refl, refl, start .pre .0 .0, omega arith, omega arith)
 
-sub-if1 : tie.Need-sub-if1 Inv-loop μ-loop
-sub-if1 c = c .loop .inv .4
-
 -- another row is there
 whole : (c : tie.Then1 Inv-loop μ-loop)
     → let at = c .before .before in
@@ -35,14 +32,11 @@ whole : (c : tie.Then1 Inv-loop μ-loop)
 whole c =
     let at = c .before .before in
     let args = at .before .before .before .before .before .before .args in
-    let h : args .inputs ≤ length (args .rows .now) - at .loop .from = leb-true _ _ (second (at .loop .p .open) _ (c .if1 .taken)) in
+    let h : args .inputs ≤ length (args .rows .now) - at .loop .from = leb-true _ _ (both (at .loop .p .open) _ (c .if1 .taken) .1) in
     omega (arith, h, at .loop .inv .4)
 
 add-end : tie.Need-add-end Inv-loop μ-loop
 add-end c = record { fits = omega (arith, whole c, c .before .before .before .before .before .before .before .before .good) }
-
-part-take-row-end : tie.Need-part-take-row-end Inv-loop μ-loop
-part-take-row-end c = whole (c .before)
 
 take-row-requires : tie.Need-take-row-requires Inv-loop μ-loop
 take-row-requires c κs =
@@ -94,26 +88,11 @@ loop-again c =
 print-refusal-requires : tie.Need-print-refusal-requires Inv-loop μ-loop
 print-refusal-requires c κs = let at = c .before .before .before .before .before in omega (arith, at .loop .inv .2, at .loop .inv .3)
 
-same-length : tie.Need-same-length Inv-loop μ-loop
-same-length c = c .before .before .before .before .before .before .before .before .loop .inv .0
-
-same-length-2 : tie.Need-same-length-2 Inv-loop μ-loop
-same-length-2 c = c .before .before .before .before .before .before .before .before .loop .inv .1
-
 same-length-3 : tie.Need-same-length-3 Inv-loop μ-loop
 same-length-3 c = c .before .before .print-refusal .kept .0 ∙ c .before .before .before .before .before .before .before .before .loop .inv .2
 
 returns : tie.Need-returns Inv-loop μ-loop
 returns c = let at = c .before .before .before .before .before .before .before .before in (omega arith, omega (arith, at .loop .inv .4, at .loop .inv .5))
-
-same-length-4 : tie.Need-same-length-4 Inv-loop μ-loop
-same-length-4 c = c .before .before .before .before .loop .inv .0
-
-same-length-5 : tie.Need-same-length-5 Inv-loop μ-loop
-same-length-5 c = c .before .before .before .before .loop .inv .1
-
-same-length-6 : tie.Need-same-length-6 Inv-loop μ-loop
-same-length-6 c = c .before .before .before .before .loop .inv .2
 
 returns-2 : tie.Need-returns-2 Inv-loop μ-loop
 returns-2 c =
@@ -127,20 +106,20 @@ take-rows-spec =
     Inv-loop
     μ-loop
     loop-holds
-    sub-if1
+    (λ c. c .loop .inv .4)
     add-end
     (λ c. omega arith)
     (λ c. omega arith)
-    part-take-row-end
+    (λ c. whole (c .before))
     take-row-requires
     loop-less
     loop-again
     print-refusal-requires
-    same-length
-    same-length-2
+    (λ c. c .before .before .before .before .before .before .before .before .loop .inv .0)
+    (λ c. c .before .before .before .before .before .before .before .before .loop .inv .1)
     same-length-3
     returns
-    same-length-4
-    same-length-5
-    same-length-6
+    (λ c. c .before .before .before .before .loop .inv .0)
+    (λ c. c .before .before .before .before .loop .inv .1)
+    (λ c. c .before .before .before .before .loop .inv .2)
     returns-2)

@@ -19,9 +19,6 @@ abbrev μ-loop : tie.MeasureT-loop
 counts : (n : ℕ) (xs : List ℕ) → n ≤ length xs → Counts n xs
 counts n xs h = (h, sym (length-take-le n xs h))
 
-loop-holds : tie.Need-loop-holds Inv-loop μ-loop
-loop-holds c = (refl, omega arith)
-
 read-more-requires : tie.Need-read-more-requires Inv-loop μ-loop
 read-more-requires c κs = let inv = c .before .before .loop .inv in omega (arith, inv .0, inv .1)
 
@@ -47,14 +44,8 @@ loop-less c =
 loop-again : tie.Need-loop-again Inv-loop μ-loop
 loop-again c = let more = c .before .before .before .before .before in (long more, within more)
 
-same-length : tie.Need-same-length Inv-loop μ-loop
-same-length c = c .before .loop .inv .0
-
 returns : tie.Need-returns Inv-loop μ-loop
 returns c = let inv = c .before .loop .inv in counts _ _ (omega (arith, inv .0, inv .1))
-
-same-length-2 : tie.Need-same-length-2 Inv-loop μ-loop
-same-length-2 c = long (c .before .before .before .before)
 
 returns-2 : tie.Need-returns-2 Inv-loop μ-loop
 returns-2 c =
@@ -67,12 +58,12 @@ fill-spec =
     (tie.spec
     Inv-loop
     μ-loop
-    loop-holds
+    (λ c. (refl, omega arith))
     read-more-requires
     add-bytes
     loop-less
     loop-again
-    same-length
+    (λ c. c .before .loop .inv .0)
     returns
-    same-length-2
+    (λ c. long (c .before .before .before .before))
     returns-2)

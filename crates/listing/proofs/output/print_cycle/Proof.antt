@@ -1,4 +1,4 @@
--- `listing::output::print_cycle` meets its contract: the line that is put ends within the buffer.
+-- `listing::output::print_cycle` meets its contract: the line has room, so it is put behind what stood there, and ends within the buffer.
 use Prim.Native.Nat.{ℕ, _+_, _-_, _≤_}
 use native.Mathlib.Omega.{arith}
 use mathlib.Core.Path.{_≡_}

@@ -1,10 +1,6 @@
 -- `listing_text::pieces::put_digits` meets its contract: what is left, put behind what stands, gives the whole.
-use Prim.Native.Nat.{_+_, _-_, _<_}
-use native.Mathlib.Omega.{arith}
-use mathlib.Core.Path.{_≡_}
-use mathlib.Core.List.{map}
+use Prim.Native.Nat.{_-_}
 use lib.ListN.{length}
-use lib.Seq.{sets}
 use borrow.Author.Needs.{needs}
 use Rattle.listing_text.specs.Lines.{digit}
 use Rattle.listing_text.proofs.Putting.{Putting, put-begins, put-goes-on, put-ends}
@@ -17,58 +13,20 @@ Inv-loop buffer₀ at bytes i₀ buffer i = Putting digit bytes buffer₀ at buf
 abbrev μ-loop : tie.MeasureT-loop
 μ-loop buffer₀ at bytes i₀ buffer i = length bytes - i
 
--- the length stays
-long : (c : tie.At-loop Inv-loop μ-loop) → length (c .loop .buffer) ≡ length (c .before .args .buffer .now)
-long c = c .loop .inv .long
-
-loop-holds : tie.Need-loop-holds Inv-loop μ-loop
-loop-holds c = put-begins
-
--- the next byte has a place
-within : (c : tie.In-loop Inv-loop μ-loop) → c .before .before .args .at + c .before .loop .i < length (c .before .loop .buffer)
-within c = omega (arith, c .loop-test .taken, c .before .before .pre, long (c .before))
-
-add-buffer-2 : tie.Need-add-buffer-2 Inv-loop μ-loop
-add-buffer-2 c = record { fits = omega (arith, within (c .before), long (c .before .before), c .before .before .before .good) }
-
-slice-write-buffer : tie.Need-slice-write-buffer Inv-loop μ-loop
-slice-write-buffer c = within (c .before)
-
-loop-less : tie.Need-loop-less Inv-loop μ-loop
-loop-less c = let h = c .before .loop-test .taken in omega (arith, h)
-
-loop-again : tie.Need-loop-again Inv-loop μ-loop
-loop-again c = put-goes-on (c .before .loop-test .taken) (c .before .before .loop .inv)
-
--- past the loop all of it stands
-all : (c : tie.After-loop Inv-loop μ-loop)
-    → (c .before .loop .i ≡ length (c .before .before .args .bytes .now))
-    × (c .before .loop .buffer ≡ sets (c .before .before .args .buffer .now) (c .before .before .args .at) (map digit (c .before .before .args .bytes .now)))
-all c = put-ends (c .loop-test .left) (c .before .loop .inv)
-
-add-result : tie.Need-add-result Inv-loop μ-loop
-add-result c = let start = c .before .before in record { fits = omega (arith, all c .0, start .pre, start .good) }
-
-same-length : tie.Need-same-length Inv-loop μ-loop
-same-length c = long (c .before)
-
-returns : tie.Need-returns Inv-loop μ-loop
-returns c = (all c .1, rw (all c .0))
-
 pub put-digits-spec : {M : Type 1} → statement M
 put-digits-spec =
     tie.close
     (tie.spec
     Inv-loop
     μ-loop
-    loop-holds
+    (λ c. put-begins (c .pre))
     (λ c. search needs)
-    (λ c. record { fits = omega arith })
-    add-buffer-2
-    slice-write-buffer
     (λ c. search needs)
-    loop-less
-    loop-again
-    add-result
-    same-length
-    returns)
+    (λ c. search needs)
+    (λ c. search needs)
+    (λ c. search needs)
+    (λ c. search needs)
+    (λ c. put-goes-on (c .before .loop-test .taken) (c .before .before .loop .inv))
+    (λ c. search needs)
+    (λ c. c .before .loop .inv .long)
+    (λ c. put-ends (c .loop-test .left) (c .before .loop .inv)))

@@ -11,59 +11,47 @@ use Rattle.tracker.proofs.Reading.{Gate, gate, in-range, code-at, gate-
 use Rattle.tracker.proofs.nets.net_byte.Statement.{statement}
 use Rattle.tracker.proofs.nets.net_byte.Tie as tie
 
--- where the kind and operand a are read
-start : tie.After-operand-at → tie.Start
+-- the function's entry, from where its kind and operand a are read
+abbrev start : tie.After-operand-at → tie.Start
 start c = c .before .before .before .before .before .before
 
 -- A GATE OR OUT
 is-gate : (c : tie.Then1) → let args = start (c .before) .args in 3 ≤ kindAt (args .image .now) (args .i)
-unfolding start
 is-gate c = rw (c .before .before .kind-of .ensures) at (c .if1 .taken)
 
 pins : (c : tie.Then1)
     → let args = start (c .before) .args in
     let s = args .image .now in
     Gate (args .i) (net (kindAt s (args .i)) (operandAt s (args .n) (args .i) 0) (operandAt s (args .n) (args .i) 1) (operandAt s (args .n) (args .i) 2))
-unfolding start
-pins c = let pre = start (c .before) .pre in gate (pre .1 .1) (pre .1 .0 .0) (pre .1 .0 .2) (is-gate c)
+pins c = gate (start (c .before) .pre .1) (is-gate c)
 
 shared-slice-read-gate-byte : tie.Need-shared-slice-read-gate-byte
-unfolding start
 shared-slice-read-gate-byte c =
     let taken = c .before .before .before in
-    let pre = start (taken .before) .pre in
-    rw (taken .before .operand-at .ensures .0, pre .1 .0 .2) (in-range (pre .1 .1) (pre .1 .0 .0) (pre .1 .0 .2) (pins taken .a))
+    rw (taken .before .operand-at .ensures .0) (in-range (start (taken .before) .pre .1) (pins taken .a))
 
 shared-slice-read-gate-byte-2 : tie.Need-shared-slice-read-gate-byte-2
-unfolding start
 shared-slice-read-gate-byte-2 c =
     let at = c .before .before .before in
     let taken = at .before in
-    let pre = start (taken .before) .pre in
-    rw (at .operand-at2 .ensures .0, pre .1 .0 .2) (in-range (pre .1 .1) (pre .1 .0 .0) (pre .1 .0 .2) (pins taken .b))
+    rw (at .operand-at2 .ensures .0) (in-range (start (taken .before) .pre .1) (pins taken .b))
 
 shared-slice-read-gate-byte-3 : tie.Need-shared-slice-read-gate-byte-3
-unfolding start
 shared-slice-read-gate-byte-3 c =
     let at = c .before .before .before in
     let taken = at .before .before in
-    let pre = start (taken .before) .pre in
-    rw (at .operand-at3 .ensures .0, pre .1 .0 .2) (in-range (pre .1 .1) (pre .1 .0 .0) (pre .1 .0 .2) (pins taken .c))
+    rw (at .operand-at3 .ensures .0) (in-range (start (taken .before) .pre .1) (pins taken .c))
 
 gate-byte-requires : tie.Need-gate-byte-requires
-unfolding start
 gate-byte-requires c κs =
     let at = c .before .before .before in
     let taken = at .before .before in
     let pre = start (taken .before) .pre in
-    let readable = pre .1 .1 in
-    let size = pre .1 .0 in
     let g = pins taken in
     rw (taken .before .before .kind-of .ensures, taken .before .operand-at .ensures .0, at .before .operand-at2 .ensures .0, at .operand-at3 .ensures .0)
-    (pre .0, (g .kind, (code-at readable (size .0) (size .2) (g .a), code-at readable (size .0) (size .2) (g .b), code-at readable (size .0) (size .2) (g .c))))
+    (pre .0, (g .kind, (code-at (pre .1) (g .a), code-at (pre .1) (g .b), code-at (pre .1) (g .c))))
 
 returns : tie.Need-returns
-unfolding start
 returns c =
     let at = c .before .before .before .before in
     let taken = at .before .before in
@@ -72,83 +60,58 @@ returns c =
     let args = start (taken .before) .args in
     let k = kindAt (args .image .now) (args .i) in
     let gates : 3 ≤ k = is-gate taken in (
-      byte ∙ sym (gate-byte (pre .1 .1) (pre .1 .0 .0) (pre .1 .0 .2) gates),
+      byte ∙ sym (gate-byte (pre .1) gates),
       (
         rw (ne-eqb k INPUT (λ e. omega arith)) (omega arith),
         rw (ne-eqb k REG (λ e. omega arith)) (omega arith),
       ),
     )
 
--- A ROW BYTE, A STATE BYTE, A CONSTANT
+-- A ROW BYTE, A STATE BYTE, A CONSTANT. The row byte and the state byte are there
 is-input : (c : tie.Then2) → let args = start (c .before .before) .args in kindAt (args .image .now) (args .i) ≡ INPUT
-unfolding start
 is-input c = rw (c .before .before .before .kind-of .ensures) at (c .if2 .taken)
 
 input-there : (c : tie.Then2) → let args = start (c .before .before) .args in args .inputs < length (args .row .now)
-unfolding start
 input-there c = start (c .before .before) .pre .1 .1 .input (is-input c)
 
-shared-slice-read-t23 : tie.Need-shared-slice-read-t23
-unfolding start
-shared-slice-read-t23 c = input-there (c .before)
-
-add-t24 : tie.Need-add-t24
-unfolding start
-add-t24 c = omega (arith, input-there (c .before))
-
 returns-2 : tie.Need-returns-2
-unfolding start
 returns-2 c =
     let taken = c .before in
     let pre = start (taken .before .before) .pre in
     let e = is-input taken in
-    (sym (input-byte (pre .1 .1) (pre .1 .0 .0) (pre .1 .0 .2) e), (rw e (omega arith), rw e (omega arith)))
+    (sym (input-byte (pre .1) e), (rw e (omega arith), rw e (omega arith)))
 
 is-register : (c : tie.Then3) → let args = start (c .before .before .before) .args in kindAt (args .image .now) (args .i) ≡ REG
-unfolding start
 is-register c = rw (c .before .before .before .before .kind-of .ensures) at (c .if3 .taken)
 
 register-there : (c : tie.Then3) → let args = start (c .before .before .before) .args in args .registers < length (args .state .now)
-unfolding start
 register-there c = start (c .before .before .before) .pre .1 .1 .register (is-register c)
 
-shared-slice-read-t26 : tie.Need-shared-slice-read-t26
-unfolding start
-shared-slice-read-t26 c = register-there (c .before)
-
-add-t27 : tie.Need-add-t27
-unfolding start
-add-t27 c = omega (arith, register-there (c .before))
-
 returns-3 : tie.Need-returns-3
-unfolding start
 returns-3 c =
     let taken = c .before in
     let pre = start (taken .before .before .before) .pre in
     let e = is-register taken in
-    (sym (register-byte (pre .1 .1) (pre .1 .0 .0) (pre .1 .0 .2) e), (rw e (omega arith), rw e (omega arith)))
+    (sym (register-byte (pre .1) e), (rw e (omega arith), rw e (omega arith)))
 
 is-const : (c : tie.Else3)
     → let args = start (c .before .before .before) .args in
     (kindAt (args .image .now) (args .i) ≡ CONST) × (operandAt (args .image .now) (args .n) (args .i) 0 ≤ 1)
-unfolding start
 is-const c =
     let source = c .before .before in
     let pre = start (source .before) .pre in
     let kind = source .before .before .kind-of .ensures in
-    is-const-value (pre .1 .1) (pre .1 .0 .0) (pre .1 .0 .2) (rw kind at (source .if1 .left)) (rw kind at (c .before .if2 .left)) (rw kind at (c .if3 .left))
+    is-const-value (pre .1) (rw kind at (source .if1 .left)) (rw kind at (c .before .if2 .left)) (rw kind at (c .if3 .left))
 
 cast-t28 : tie.Need-cast-t28
-unfolding start
 cast-t28 c = let small = is-const c .1 in rw (c .before .before .before .operand-at .ensures .0) (omega arith)
 
 returns-4 : tie.Need-returns-4
-unfolding start
 returns-4 c =
     let read = c .before .before .before in
     let pre = start read .pre in
     let e = is-const c .0 in
-    (read .operand-at .ensures .0 ∙ sym (const-byte (pre .1 .1) (pre .1 .0 .0) (pre .1 .0 .2) e), (rw e (omega arith), rw e (omega arith)))
+    (read .operand-at .ensures .0 ∙ sym (const-byte (pre .1) e), (rw e (omega arith), rw e (omega arith)))
 
 pub net-byte-spec : {M : Type 1} → statement M
 net-byte-spec =
@@ -163,11 +126,11 @@ net-byte-spec =
     shared-slice-read-gate-byte-3
     gate-byte-requires
     returns
-    shared-slice-read-t23
-    add-t24
+    (λ c. input-there (c .before))
+    (λ c. omega (arith, input-there (c .before)))
     returns-2
-    shared-slice-read-t26
-    add-t27
+    (λ c. register-there (c .before))
+    (λ c. omega (arith, register-there (c .before)))
     returns-3
     cast-t28
     returns-4)

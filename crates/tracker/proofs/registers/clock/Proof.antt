@@ -1,31 +1,22 @@
 -- `tracker::registers::clock` meets its contract. At net i, the new bytes of the registers below it stand in the state, and those of the others are left.
-use Prim.Native.Nat.{ℕ, _+_, _-_, _≤_}
+use Prim.Native.Nat.{_-_, _<_}
 use native.Mathlib.Omega.{arith}
 use mathlib.Core.Logic.{⊎-elim}
 use mathlib.Core.Path.{_≡_, sym, _∙_}
-use mathlib.Core.List.{List, _∷_}
-use lib.ListN.{length, getD}
+use lib.ListN.{length}
 use borrow.Author.Needs.{needs}
 use Rattle.gates.specs.Kinds.{REG}
-use Rattle.netlist.specs.declared.image.Net.{Net}
-use Rattle.netlist.specs.Image.{kindAt, operandAt, netAt, netsOf}
-use Rattle.netlist.proofs.Nets.{netsLeft, nets-left}
+use Rattle.netlist.specs.Image.{kindAt, netAt}
 use Rattle.netlist.proofs.Checked.{Checked, check-none}
-use Rattle.tracker.specs.Cycle.{pinByte, registers, clocked}
-use Rattle.tracker.proofs.Cycles.{registers-length}
+use Rattle.tracker.specs.Cycle.{pinByte, clocked}
 use Rattle.tracker.proofs.Reading.{pin-below}
-use Rattle.tracker.proofs.Filling.{Filled, fill-begins, fill-goes-on, fill-room, fill-length, registers-selected, selects, passes-over, selected}
-use Rattle.tracker.proofs.Skipping.{selection-from}
+use Rattle.tracker.proofs.Selections.{registers-selected}
+use Rattle.tracker.proofs.Filling.{Pass, pass-reads, pass-begins, pass-room, pass-takes, pass-skips, pass-ends}
 use Rattle.tracker.proofs.registers.clock.Statement.{statement}
 use Rattle.tracker.proofs.registers.clock.Tie as tie
 
--- the byte that a register takes
-abbrev taken : List ℕ → Net → ℕ
-taken bs x = pinByte bs (x .a)
-
 abbrev Inv-loop : tie.InvT-loop
-Inv-loop image n from nets state₀ j₀ i₀ state j i =
-    (i ≤ n) × Filled (registers (taken nets) (netsOf image)) state j (registers (taken nets) (netsLeft image n i))
+Inv-loop image n from nets state₀ j₀ i₀ state j i = Pass (registers-selected (λ x. pinByte nets (x .a))) image n state₀ state j i
 
 abbrev μ-loop : tie.MeasureT-loop
 μ-loop image n from nets state₀ j₀ i₀ state j i = n - i
@@ -33,57 +24,17 @@ abbrev μ-loop : tie.MeasureT-loop
 checked : (c : tie.Start Inv-loop μ-loop) → Checked (c .args .image .now)
 checked c = check-none _ .0 (c .pre .0)
 
--- as long as the state that was lent
-whole-length : (c : tie.Start Inv-loop μ-loop)
-    → length (registers (taken (c .args .nets .now)) (netsOf (c .args .image .now))) ≡ length (c .args .state .now)
-whole-length c = registers-length _ _ ∙ sym (checked c .registers) ∙ sym (c .pre .1 .0 .2)
-
 loop-holds : tie.Need-loop-holds Inv-loop μ-loop
 loop-holds c =
     let start = c .before .before .before in
     let size = start .pre .1 .0 in
     let from = start .pre .1 .1 in
-    let s = start .args .image .now in
-    let all = nets-left s (start .args .n) (size .0) in (
-      from .0,
-      fill-begins
-          (rw (← all) (selection-from s _ _ (from .0) (registers-selected (taken (start .args .nets .now))) (from .1)))
-          (whole-length start),
-    )
-
-kind-of-requires : tie.Need-kind-of-requires Inv-loop μ-loop
-kind-of-requires c κs =
-    let start = c .before .before .before .before .before in
-    let h = c .loop-test .taken in
-    omega (arith, checked start .exact, start .pre .1 .0 .0)
+    pass-begins _ (checked start) (size .0) (size .2 ∙ checked start .registers) (from .0) (from .1)
 
 is-register : (c : tie.Then1 Inv-loop μ-loop)
     → let at = c .before .before .before in
     kindAt (at .before .before .before .before .args .image .now) (at .loop .i) ≡ REG
 is-register c = sym (c .before .kind-of .ensures) ∙ c .if1 .taken
-
--- a register: its byte is the next to write
-this-register : (c : tie.Then1 Inv-loop μ-loop)
-    → let at = c .before .before .before in
-    let args = at .before .before .before .before .args in
-    let s = args .image .now in
-    let n = args .n in
-    let bs = args .nets .now in
-    let i = at .loop .i in
-    Filled (registers (taken bs) (netsOf s)) (at .loop .state) (at .loop .j)
-    (getD bs (operandAt s n i 0) 0 ∷ registers (taken bs) (netsLeft s n (i + 1)))
-unfolding pinByte netAt
-this-register c =
-    let at = c .before .before .before in
-    let args = at .before .before .before .before .args in
-    selects (registers-selected (taken (args .nets .now))) (args .image .now) (args .n) (at .loop .i) (at .loop .inv .1) (c .before .before .loop-test .taken)
-    (is-register c)
-
-operand-of-requires : tie.Need-operand-of-requires Inv-loop μ-loop
-operand-of-requires c κs =
-    let turn = c .before .before in
-    let start = turn .before .before .before .before .before in
-    (rw (← start .pre .1 .0 .0) (turn .loop-test .taken), omega arith, checked start .exact)
 
 shared-slice-read-state : tie.Need-shared-slice-read-state Inv-loop μ-loop
 shared-slice-read-state c =
@@ -93,40 +44,32 @@ shared-slice-read-state c =
     let size = start .pre .1 .0 in
     rw (read .operand-of .ensures .0, ← size .0, size .1) (pin-below (checked start) (size .0) _ (turn .loop-test .taken) (is-register (read .before)))
 
+-- a register has a byte in the state
+room : (c : tie.Then1 Inv-loop μ-loop) → let at = c .before .before .before in at .loop .j < length (at .loop .state)
+room c = pass-room (c .before .before .before .loop .inv) (c .before .before .loop-test .taken) (is-register c)
+
 slice-write-state : tie.Need-slice-write-state Inv-loop μ-loop
-slice-write-state c = fill-room (this-register (c .before .before))
+slice-write-state c = room (c .before .before)
 
 add-j : tie.Need-add-j Inv-loop μ-loop
 add-j c =
     let then = c .before .before in
-    let this = this-register then in
-    omega (arith, fill-room this, fill-length this, whole-length (then .before .before .before .before .before .before .before))
+    omega (arith, room then, then .before .before .before .loop .inv .size)
 
 loop-again : tie.Need-loop-again Inv-loop μ-loop
+unfolding pinByte netAt
 loop-again c =
     let turn = c .before .before in
-    let at = turn .before in
-    let start = at .before .before .before .before in
-    let args = start .args in
-    let s = args .image .now in (
-      omega (arith, turn .loop-test .taken),
-      ⊎-elim
-          (λ w. rw (w .3, w .4, w .1 .ensures .0, ← start .pre .1 .0 .0) (fill-goes-on (this-register (record { before = c .before; if1 = w .0 }))))
-          (λ w.
-          let other : kindAt s (at .loop .i) ≡ REG → ⊥ = λ e. w .0 .left (c .before .kind-of .ensures ∙ e) in
-          rw (w .1, w .2) (passes-over (registers-selected (taken (args .nets .now))) s (args .n) (at .loop .i) (at .loop .inv .1) (turn .loop-test .taken) other))
-          (c .if1 .came),
-    )
+    let pass = turn .before .loop .inv in
+    let below = turn .loop-test .taken in
+    ⊎-elim
+    (λ w. rw (w .3, w .4, w .1 .ensures .0, ← pass .count-is) (pass-takes pass below (is-register (record { before = c .before; if1 = w .0 }))))
+    (λ w. rw (w .1, w .2) (pass-skips pass below (λ e. w .0 .left (c .before .kind-of .ensures ∙ e))))
+    (c .if1 .came)
 
 returns : tie.Need-returns Inv-loop μ-loop
 unfolding clocked
-returns c =
-    let at = c .before in
-    let args = at .before .before .before .before .args in
-    selected (registers-selected (taken (args .nets .now))) (args .image .now) (args .n) (at .loop .i) (at .loop .inv .1) (c .loop-test .left)
-
-same-length : tie.Need-same-length Inv-loop μ-loop
-same-length c = let at = c .before in fill-length (at .loop .inv .1) ∙ whole-length (at .before .before .before .before)
+returns c = pass-ends (c .before .loop .inv) (c .loop-test .left)
 
 pub clock-spec : {M : Type 1} → statement M
 clock-spec =
@@ -135,13 +78,13 @@ clock-spec =
     Inv-loop
     μ-loop
     loop-holds
-    kind-of-requires
-    operand-of-requires
+    (λ c κs. search needs)
+    (λ c κs. pass-reads (c .before .before .before .loop .inv) (c .before .before .loop-test .taken) 0 (omega arith))
     shared-slice-read-state
     slice-write-state
     add-j
     (λ c. search needs)
     (λ c. search needs)
     loop-again
-    same-length
+    (λ c. c .before .loop .inv .size)
     returns)

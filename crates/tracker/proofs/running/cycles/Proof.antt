@@ -81,9 +81,6 @@ add-out-end c =
     let sized = turn-at .before .before .before .before in
     rw (sized .sizes-of .ensures) (record { fits = omega (arith, outputs-fit (turn turn-at), all-outputs (turn turn-at), outputs-few (sized .before .before .before .before .before)) })
 
-part-cycle-start : tie.Need-part-cycle-start Inv-loop μ-loop
-part-cycle-start c = omega arith
-
 part-cycle-end : tie.Need-part-cycle-end Inv-loop μ-loop
 part-cycle-end c =
     let turn-at = c .before .before .before in
@@ -104,9 +101,6 @@ array-borrow-prefix-nets c = nets-there (c .before .before .before .before .befo
 
 slice-aggregate-cycle : tie.Need-slice-aggregate-cycle Inv-loop μ-loop
 slice-aggregate-cycle c = sym (length-take-le _ _ (nets-there (c .before .before .before .before .before .before .before)))
-
-part-cycle-start-2 : tie.Need-part-cycle-start-2 Inv-loop μ-loop
-part-cycle-start-2 c = omega arith
 
 part-cycle-end-2 : tie.Need-part-cycle-end-2 Inv-loop μ-loop
 part-cycle-end-2 c =
@@ -207,12 +201,12 @@ cycles-spec =
     add-row-end
     add-out-end
     (λ c. search needs)
-    part-cycle-start
+    (λ c. search needs)
     part-cycle-end
     array-borrow-prefix-nets
     slice-aggregate-cycle
     (λ c. search needs)
-    part-cycle-start-2
+    (λ c. search needs)
     part-cycle-end-2
     cycle-requires
     add-c

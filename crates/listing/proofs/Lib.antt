@@ -1,2 +1,0 @@
--- Laws that the proofs of this program share.
-pub mod Both

@@ -1,0 +1,59 @@
+-- A list with a byte for each net of one kind, in net order from some net on: its length, its parts, and two such lists related place by place.
+use Prim.Native.Nat.{ℕ, suc, _+_}
+use native.Mathlib.Nat.{add-zero}
+use native.Mathlib.Omega.{arith}
+use mathlib.Core.Path.{_≡_, refl}
+use mathlib.Core.List.{List, [], _∷_, _++_, Forall₂, Forall₂·nil, Forall₂·cons}
+use mathlib.Core.Bool.{Bool, true, false, cond}
+use lib.Dec.{eqb}
+use lib.ListN.{length, getD}
+use Rattle.gates.specs.Kinds.{REG, OUT}
+use Rattle.gates.proofs.Laws.{cond-related}
+use Rattle.netlist.specs.declared.image.Net.{Net}
+use Rattle.netlist.specs.Image.{count}
+use Rattle.tracker.specs.Cycle.{outputsFrom, registers}
+
+pub record Selection (k : ℕ) (list : ℕ → List Net → List ℕ) (byte : ℕ → Net → ℕ) : Type 0 where
+  pub none : (i : ℕ) → list i [] ≡ []
+  pub next : (i : ℕ) (x : Net) (xs : List Net) → list i (x ∷ xs) ≡ cond (eqb (x .kind) k) (byte i x ∷ list (suc i) xs) (list (suc i) xs)
+
+pub outputs-selected : (bs : List ℕ) → Selection OUT (λ i xs. outputsFrom i xs bs) (λ i x. getD bs i 0)
+unfolding outputsFrom
+outputs-selected bs = record { none = λ i. refl; next = λ i x xs. refl }
+
+pub registers-selected : (f : Net → ℕ) → Selection REG (λ i xs. registers f xs) (λ i x. f x)
+unfolding registers
+registers-selected f = record { none = λ i. refl; next = λ i x xs. refl }
+
+-- as long as there are nets of the kind
+one-more : (c : Bool) (y : ℕ) (ys : List ℕ) {n : ℕ} → length ys ≡ n → length (cond c (y ∷ ys) ys) ≡ cond c 1 0 + n
+one-more true y ys h = omega (arith, h)
+one-more false y ys h = omega (arith, h)
+
+pub selection-length : {k : ℕ} {list : ℕ → List Net → List ℕ} {byte : ℕ → Net → ℕ} → Selection k list byte
+    → (i : ℕ) (xs : List Net) → length (list i xs) ≡ count k xs
+unfolding count
+selection-length s i [] = rw (s .none i)
+selection-length {k} s i (x ∷ xs) = rw (s .next i x xs) (one-more (eqb (x .kind) k) _ _ (selection-length s (suc i) xs))
+
+-- part by part
+cond-append : (c : Bool) (xs ys zs : List ℕ) → cond c (xs ++ zs) (ys ++ zs) ≡ cond c xs ys ++ zs
+cond-append true xs ys zs = refl
+cond-append false xs ys zs = refl
+
+pub selection-append : {k : ℕ} {list : ℕ → List Net → List ℕ} {byte : ℕ → Net → ℕ} → Selection k list byte
+    → (i : ℕ) (xs ys : List Net) → list i (xs ++ ys) ≡ list i xs ++ list (i + length xs) ys
+selection-append s i [] ys = rw (s .none i, add-zero)
+selection-append {k} {list} {byte} s i (x ∷ xs) ys =
+    let e : i + suc (length xs) ≡ suc i + length xs = omega arith in
+    rw (s .next i x (xs ++ ys), s .next i x xs, selection-append s (suc i) xs ys, e)
+    (cond-append (eqb (x .kind) k) (byte i x ∷ list (suc i) xs) (list (suc i) xs) _)
+
+-- of related bytes
+pub selections-related : (R : ℕ → ℕ → Type 0) {k : ℕ} {l l′ : ℕ → List Net → List ℕ} {b b′ : ℕ → Net → ℕ}
+    → Selection k l b → Selection k l′ b′ → ((i : ℕ) (x : Net) → R (b i x) (b′ i x))
+    → (i : ℕ) (xs : List Net) → Forall₂ R (l i xs) (l′ i xs)
+selections-related R s s′ h i [] = rw (s .none i, s′ .none i) Forall₂·nil
+selections-related R {k} s s′ h i (x ∷ xs) =
+    let t = selections-related R s s′ h (suc i) xs in
+    rw (s .next i x xs, s′ .next i x xs) (cond-related (Forall₂ R) (eqb (x .kind) k) (Forall₂·cons (h i x) t) t)
