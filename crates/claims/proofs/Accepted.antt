@@ -19,19 +19,19 @@ together [] h = Forall₂·nil
 together (x ∷ xs) h = Forall₂·cons (h 0 (omega arith)) (together xs (λ i l. h (suc i) (omega arith)))
 
 -- what a call takes, both ways
-state : {s st : List ℕ} → IsState s st → claim.State s st
+state : {s st : List ℕ} → IsState s st → claim.AcceptedState s st
 state h = record { size = h .size; codes = each (h .codes) }
 
-is-state : {s st : List ℕ} → claim.State s st → IsState s st
+is-state : {s st : List ℕ} → claim.AcceptedState s st → IsState s st
 is-state {st = st} h = record { size = h .size; codes = together st (h .codes) }
 
-ready : {s st : List ℕ} {n : ℕ} {rows : List ℕ} → claim.Image s → claim.State s st → claim.Rows n rows → Ready s st n rows
+ready : {s st : List ℕ} {n : ℕ} {rows : List ℕ} → claim.AcceptedImage s → claim.AcceptedState s st → claim.AcceptedRows n rows → Ready s st n rows
 ready {rows = rows} i st r = record { image = check-none _ .0 i; state = is-state st; size = r .size; codes = together rows (r .codes) }
 
-image : {s st : List ℕ} {n : ℕ} {rows : List ℕ} → Ready s st n rows → claim.Image s
+image : {s st : List ℕ} {n : ℕ} {rows : List ℕ} → Ready s st n rows → claim.AcceptedImage s
 image r = check-none _ .1 (r .image)
 
-rows-of : {s st : List ℕ} {n : ℕ} {rows : List ℕ} → Ready s st n rows → claim.Rows n rows
+rows-of : {s st : List ℕ} {n : ℕ} {rows : List ℕ} → Ready s st n rows → claim.AcceptedRows n rows
 rows-of r = record { size = r .size; codes = each (r .codes) }
 
 pub when-accepted : claim.Accepted

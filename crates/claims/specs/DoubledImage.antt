@@ -1,4 +1,4 @@
--- The doubled image: what doubling writes passes checking, is read back as the doubled netlist, has its groups in place, and what no run on plain rows shows of it.
+-- The doubled image: it passes checking, it is read back as the doubled netlist, its groups stand in place; and what no run on plain rows shows of it.
 use Prim.Native.Nat.{ℕ, _+_, _≤_, _<_}
 use mathlib.Core.Path.{_≡_}
 use mathlib.Core.List.{List}
@@ -45,9 +45,7 @@ pub record Placed (s : List ℕ) : Type 0 where
 abbrev pub DoubledPlaced : Type 0
 DoubledPlaced = (s : List ℕ) → checkRefusal s ≡ none → Placed s
 
--- WHAT NO RUN ON PLAIN ROWS SHOWS: the policy of an OUT, and a start that is not given
-
--- every OUT of the doubled netlist is free; of a register's two, the first keeps its start, and the second starts with 0
+-- what no run on plain rows shows, the policy of an OUT and a start that is not given: every OUT of the doubled netlist is free; of a register's two, the first keeps its start, and the second starts with 0
 pub record Unseen (s : List ℕ) : Type 0 where
   pub outs : (j : ℕ) → netOf (doubledImage s) j .kind ≡ OUT → netOf (doubledImage s) j .b ≡ 0
   pub values :

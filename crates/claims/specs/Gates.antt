@@ -1,4 +1,4 @@
--- What holds of the gate rules, whatever the bytes of their pins.
+-- What holds of the gate rules: a MUX is its composition on bytes 0 to 3, and marks are monotone on all bytes.
 use Prim.Native.Nat.{ℕ, _≤_}
 use mathlib.Core.Path.{_≡_}
 use Rattle.gates.specs.Rules.{notByte, andByte, orByte, muxByte, gateByte}

@@ -17,7 +17,7 @@ unfoldable pub lent : Call → List ℕ
 lent (step row nets) = nets
 lent (run k rows outputs) = outputs
 
--- the refusal that a call meets
+-- the refusal that a call meets, or none
 unfoldable pub refusalOf : (s st : List ℕ) → Call → Option Refusal
 refusalOf s st (step row nets) = stepRefusal s st row nets
 refusalOf s st (run k rows outputs) = runRefusal s st k rows outputs
@@ -27,7 +27,7 @@ pub data CallAnswer : Type 0 where
   stepped : Answer Verdict → CallAnswer
   ran : Answer FirstFlow → CallAnswer
 
--- what one call gives: its answer, what it leaves in its buffer and in the state, and its cycles, each as the step with the same row
+-- what one call gives: its answer, what it leaves in its buffer and in the state, and its cycles, each as the step with the same row; none where it is refused
 pub record CallResult : Type 0 where
   pub answer : CallAnswer
   pub buffer : List ℕ
@@ -79,11 +79,12 @@ pub data Finished : CallAnswer → Type 0 where
   a-step : {v : Verdict} → Finished (stepped (done v))
   a-run : {f : FirstFlow} → Finished (ran (done f))
 
+-- no answer of a list is a refusal
 pub data AllFinished : List CallResult → Type 0 where
   nil : AllFinished []
   cons : {m : CallResult} {ms : List CallResult} → Finished (m .answer) → AllFinished ms → AllFinished (m ∷ ms)
 
--- the cycles of an accepted call are steps: a step is its own, and a run is as its steps
+-- the cycles of a call are those of steps: a step is its own cycle, and a run gives what its steps give (AsSteps)
 pub data InSteps (s st : List ℕ) : Call → Type 0 where
   a-step : {row nets : List ℕ} → InSteps s st (step row nets)
   a-run : {k : ℕ} {rows outputs : List ℕ} → AsSteps s st k rows outputs → InSteps s st (run k rows outputs)

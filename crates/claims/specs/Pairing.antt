@@ -1,4 +1,4 @@
--- Demand 2, second half: the doubled netlist shows the same values and marks at its paired outputs.
+-- Demand 2, its second sentence: the doubled netlist shows the same values and marks at its paired outputs. The first sentence is NetBytes, Verdicts and the contracts of the calls.
 use Prim.Native.Nat.{ℕ, _+_, _*_, _%_, _≤_}
 use mathlib.Core.Path.{_≡_}
 use mathlib.Core.List.{List, map, Forall₂}
@@ -11,7 +11,7 @@ use Rattle.tracker.specs.Calls.{Stepped, powerUpOf}
 use Rattle.doubling.specs.Doubled.{doubledSize, doubleOf, split}
 use Rattle.claims.specs.History.{Call, step, run, history, accepted, cyclesIn, AllFinished}
 
--- a call made again on the doubled image d, with any buffer of its length
+-- a call made again on the doubled image d: each row byte as two, and any buffer of the right length
 pub data Again (d : List ℕ) : Call → Call → Type 0 where
   step-again : {row b b′ : List ℕ} → length b′ ≡ sizesOf d .nets → Again d (step row b) (step (split row) b′)
   run-again : {k : ℕ} {rows b b′ : List ℕ} → length b′ ≡ k * sizesOf d .outputs → Again d (run k rows b) (run k (split rows) b′)

@@ -15,6 +15,7 @@ use Rattle.netlist.specs.Check.{refusal, refuse, _then_, checkRefusal, badLengt
 unfoldable pub groupLengths : List ℕ
 groupLengths = 2 ∷ 2 ∷ 2 ∷ 2 ∷ 6 ∷ 8 ∷ 2 ∷ 7 ∷ 2 ∷ []
 
+-- the length of the group of a net of kind k
 unfoldable pub groupLength : ℕ → ℕ
 groupLength k = getD groupLengths k 0
 
@@ -23,7 +24,7 @@ unfoldable pub doubledSize : List Net → ℕ
 doubledSize [] = 0
 doubledSize (x ∷ xs) = groupLength (x .kind) + doubledSize xs
 
--- the value net and the mark net of net i
+-- the value net and the mark net of net i: the first and the last of its group
 unfoldable pub valueNet : List Net → (i : ℕ) → ℕ
 valueNet xs i = doubledSize (take i xs)
 
@@ -117,10 +118,11 @@ unfoldable pub groupsFrom : List Net → (i : ℕ) → List Net → List Net
 groupsFrom xs i [] = []
 groupsFrom xs i (y ∷ ys) = groupAt xs i y ++ groupsFrom xs (suc i) ys
 
+-- the doubled netlist of the nets xs
 unfoldable pub doubledNets : List Net → List Net
 doubledNets xs = groupsFrom xs 0 xs
 
--- inputs, registers and outputs pair
+-- the sizes of the doubled netlist: its nets, and twice the inputs, registers and outputs of the source
 abbrev pub pairedSizes : List ℕ → Sizes
 pairedSizes s =
     record {
@@ -130,6 +132,7 @@ pairedSizes s =
       outputs = 2 * sizesOf s .outputs;
     }
 
+-- the image of the doubled netlist
 unfoldable pub doubledImage : List ℕ → List ℕ
 doubledImage s = encode (pairedSizes s) (doubledNets (netsOf s))
 
@@ -138,6 +141,7 @@ pub record Doubling : Type 0 where
   pub refusal : Option Refusal
   pub buffer : List ℕ
 
+-- 1 to 8, 15 and 16
 unfoldable pub doubleRefusal : (s buf : List ℕ) → Option Refusal
 doubleRefusal s buf =
     checkRefusal s

@@ -1,4 +1,4 @@
--- Every answer as one number. It is a refusal exactly if the number is 2^32 or more.
+-- Every answer as one number. Of the answers that calls give, the refusals are exactly those with a number of 2^32 or more (Readings.antt).
 use Prim.Native.Nat.{ℕ, _+_, _*_, _^_}
 use mathlib.Core.Option.{Option, none, some}
 use Rattle.netlist.specs.declared.answer.Refusal.{Refusal}

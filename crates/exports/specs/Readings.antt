@@ -22,7 +22,7 @@ pub data OutcomeRead : Option Refusal → Type 0 where
   is-done : OutcomeRead none
   is-refused : {r : Refusal} → RefusalRead r → OutcomeRead (some r)
 
--- the answer of a step: a verdict's number is below 65,536, and 0 for clear alone
+-- the answer of a step: a verdict's number is below 65,536. By verdictCode it is 0 for clear, and for a flow its net + 1
 pub data StepRead : Answer Verdict → Type 0 where
   step-done : {v : Verdict} → verdictCode v < 65536 → StepRead (done v)
   step-refused : {r : Refusal} → RefusalRead r → StepRead (refused r)

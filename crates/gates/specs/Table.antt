@@ -1,4 +1,4 @@
--- The gate rules as a table: a code for each kind, 0 to 8, and for each byte of the three pins.
+-- Terms of the contracts of `table` and `gate_byte`: the gate rules as a table, with a code for each kind, 0 to 8, and for each byte of the three pins.
 use Prim.Native.Nat.{ℕ, _+_, _*_, _<_}
 use mathlib.Core.Path.{_≡_}
 use mathlib.Core.List.{List}

@@ -1,4 +1,4 @@
--- When a call turns back: the first refusal that applies, as document 01's table numbers them. `Refusal` and `Outcome` are the struct
+-- When a call turns back, by the numbers of document 01's table: refusals 1 to 8 in their order, and the parts of which calls make 10 to 14 and 16. `Refusal` and `Outcome` are the struct
 -- and the enum of src/answer.rt.
 use Prim.Native.Nat.{ℕ, suc, _+_, _*_}
 use mathlib.Core.List.{List, [], _∷_}
@@ -18,7 +18,7 @@ use Rattle.netlist.specs.declared.answer.Refusal.{Refusal}
 abbrev pub refusal : (number place : ℕ) → Refusal
 refusal number place = record { number = number; place = place }
 
--- the refusal that an answer gives
+-- the refusal that an answer gives, or none where the call is done
 abbrev pub refusalIn : Outcome → Option Refusal
 refusalIn Done = none
 refusalIn (Refused r) = some r

@@ -15,6 +15,7 @@ u16At s p = getD s p 0 + 256 * getD s (p + 1) 0
 unfoldable pub sizesOf : List ℕ → Sizes
 sizesOf s = record { nets = u16At s 0; inputs = u16At s 2; registers = u16At s 4; outputs = u16At s 6 }
 
+-- a net of kind k with operands a, b, c
 abbrev pub net : (k a b c : ℕ) → Net
 net k a b c = record { kind = k; a = a; b = b; c = c }
 
@@ -25,6 +26,7 @@ kindAt s i = getD s (8 + i) 0
 abbrev pub operandAt : List ℕ → (n i k : ℕ) → ℕ
 operandAt s n i k = u16At s (8 + n + 6 * i + 2 * k)
 
+-- net i
 unfoldable pub netAt : List ℕ → (n i : ℕ) → Net
 netAt s n i = record { kind = kindAt s i; a = operandAt s n i 0; b = operandAt s n i 1; c = operandAt s n i 2 }
 
@@ -33,6 +35,7 @@ unfoldable pub netsFrom : List ℕ → (n i k : ℕ) → List Net
 netsFrom s n i zero = []
 netsFrom s n i (suc k) = netAt s n i ∷ netsFrom s n (suc i) k
 
+-- all nets of an image
 unfoldable pub netsOf : List ℕ → List Net
 netsOf s = netsFrom s (sizesOf s .nets) 0 (sizesOf s .nets)
 
@@ -41,7 +44,7 @@ unfoldable pub count : (k : ℕ) → List Net → ℕ
 count k [] = 0
 count k (x ∷ xs) = cond (eqb (x .kind) k) 1 0 + count k xs
 
--- the other way round: the image of some nets, with the sizes that it is to say
+-- the other way round, for writing: a u16 as its two bytes; the operands of nets, net after net; and the image of the nets xs with the sizes z, whatever these are
 abbrev pub u16 : ℕ → List ℕ
 u16 n = n % 256 ∷ n / 256 ∷ []
 

@@ -1,4 +1,4 @@
--- The image of a netlist, its checking, and its writing.
+-- The image of a netlist, its view, its checking, and its writing.
 pub mod Operands
 pub mod Image
 pub mod Check

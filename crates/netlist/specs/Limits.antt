@@ -23,7 +23,7 @@ limitPlaces =
     ∷ 3 ∷ 3 ∷ 3
     ∷ 3 ∷ 1 ∷ 0 ∷ []
 
--- the limit, among those that there are, at place p of that list
+-- the limit that place p of limitPlaces names, among the limits ls
 abbrev pub limitAt : (ls : List ℕ) (p : ℕ) → ℕ
 limitAt ls p = getD ls (getD limitPlaces p 0) 0
 

@@ -19,14 +19,16 @@ pub data Answer (A : Type 0) : Type 0 where
 unfoldable pub start : ℕ → ℕ
 start b = cond (eqb b 1) 1 0
 
+-- power-up: that byte for each register, in net order
 unfoldable pub starts : List Net → List ℕ
 starts xs = registers (λ x. start (x .b)) xs
 
--- power-up: the refusal that it gives, or none, and the state
+-- what power-up gives: its refusal, or none, and the state
 pub record PoweredUp : Type 0 where
   pub refusal : Option Refusal
   pub state : List ℕ
 
+-- 1 to 8 and 10
 unfoldable pub powerUpRefusal : (s st : List ℕ) → Option Refusal
 powerUpRefusal s st = checkRefusal s then badLength 10 (sizesOf s .registers) st
 
@@ -38,11 +40,11 @@ powerUpOf s st =
     ]
 
 -- 10 to 14, by the numbers of bytes that a call wants in the state, in its rows and in the buffer that it fills
-abbrev pub lentRefusal : (registers pins filled : ℕ) (st rows buffer : List ℕ) → Option Refusal
-lentRefusal registers pins filled st rows buffer =
-    badLength 10 registers st
+abbrev pub lentRefusal : (stateBytes rowBytes filled : ℕ) (st rows buffer : List ℕ) → Option Refusal
+lentRefusal stateBytes rowBytes filled st rows buffer =
+    badLength 10 stateBytes st
     then badByte 11 0 st
-    then badLength 12 pins rows
+    then badLength 12 rowBytes rows
     then badByte 13 0 rows
     then badLength 14 filled buffer
 
@@ -56,6 +58,7 @@ pub record Stepped : Type 0 where
 unfoldable pub asStep : Cycle → Stepped
 asStep c = record { answer = done (c .verdict); state = c .state; nets = c .bytes }
 
+-- 1 to 8 and 10 to 14
 unfoldable pub stepRefusal : (s st row nets : List ℕ) → Option Refusal
 stepRefusal s st row nets =
     checkRefusal s
@@ -78,6 +81,7 @@ pub record Ran : Type 0 where
 unfoldable pub asRun : (st : List ℕ) → List Cycle → Ran
 asRun st cs = record { answer = done (firstFlow 0 cs); state = stateAfter st cs; outputs = outputsOf cs }
 
+-- 1 to 14
 unfoldable pub runRefusal : (s st : List ℕ) (k : ℕ) (rows outputs : List ℕ) → Option Refusal
 runRefusal s st k rows outputs =
     checkRefusal s

@@ -1,4 +1,4 @@
--- One clock cycle: the bytes of all nets, the verdict, the output bytes, and the registers after the clock.
+-- Clock cycles. One: the bytes of all nets, the verdict, the output bytes, and the registers after the clock. Many: their outputs, the last state, and the first flow.
 use Prim.Native.Nat.{ℕ, zero, suc}
 use mathlib.Core.List.{List, [], _∷_, _++_}
 use mathlib.Core.Bool.{_&&_, cond}
@@ -22,7 +22,7 @@ pub record Walk : Type 0 where
 unfoldable pub pinByte : (bs : List ℕ) (p : ℕ) → ℕ
 pinByte bs p = getD bs p 0
 
--- the byte of a net: a CONST's value, the next row byte for an INPUT, the next state byte for a REG, and the rule for every other kind.
+-- the byte of a net: a CONST's operand a, which is 0 or 1, so that its mark is 0, the next row byte for an INPUT, the next state byte for a REG, and the rule for every other kind.
 -- All three operands are read as pins; the rule does not look at one that is no pin, such as an OUT's policy
 unfoldable pub netByte : Rule → Net → Walk → ℕ
 netByte rule x w =
@@ -88,12 +88,12 @@ cycleOf xs row state =
     let bs = bytesOf gateByte xs row state in
     record { bytes = bs; verdict = verdictFrom 0 xs bs; outputs = outputsFrom 0 xs bs; state = clocked xs bs }
 
--- k cycles with rows of i bytes each, from a state
-unfoldable pub cyclesOf : List Net → (i k : ℕ) → (rows state : List ℕ) → List Cycle
-cyclesOf xs i zero rows state = []
-cyclesOf xs i (suc k) rows state =
-    let c = cycleOf xs (take i rows) state in
-    c ∷ cyclesOf xs i k (drop i rows) (c .state)
+-- k cycles with rows of `inputs` bytes each, from a state
+unfoldable pub cyclesOf : List Net → (inputs k : ℕ) → (rows state : List ℕ) → List Cycle
+cyclesOf xs inputs zero rows state = []
+cyclesOf xs inputs (suc k) rows state =
+    let c = cycleOf xs (take inputs rows) state in
+    c ∷ cyclesOf xs inputs k (drop inputs rows) (c .state)
 
 -- the output bytes, cycle after cycle
 unfoldable pub outputsOf : List Cycle → List ℕ
@@ -110,7 +110,7 @@ pub record FirstFlow : Type 0 where
   pub cycle : ℕ
   pub verdict : Verdict
 
--- the flow of cycle i, or otherwise another answer
+-- with a flow, cycle i and that flow; with a clear verdict, the other answer
 unfoldable pub firstOf : (i : ℕ) → Verdict → (otherwise : FirstFlow) → FirstFlow
 firstOf i clear otherwise = otherwise
 firstOf i (flow n) otherwise = record { cycle = i; verdict = flow n }

@@ -10,7 +10,7 @@ ghost use lib.ListN.{length};
 ghost use Rattle.netlist.specs.Check.{checkRefusal};
 ghost use Rattle.tracker.specs.Passes.{NoneBelow, Bounded};
 
-// The lowest net of a kind, or n where there is none.
+// The lowest net of a kind, or n where there is none. The contract asks only that no net below is of the kind: a pass may start there.
 pub fn lowest(image: &[u8], n: usize, kind: u8) -> usize
     requires { ⌜ 8 + n ≤ length (now image) ⌝ }
     ensures { λ r. ⌜ (r ≤ n) × NoneBelow kind (now (image .entry)) r ⌝ }

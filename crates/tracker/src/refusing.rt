@@ -59,20 +59,20 @@ fn codes_refusal(number: u32, next: u32, n: usize, s: &[u8]) -> Outcome
 // 10 to 14, by the numbers of bytes that are wanted in the state, in the rows and in the buffer.
 fn lent_refusal(
     registers: usize,
-    pins: usize,
+    inputs: usize,
     filled: usize,
     state: &[u8],
     rows: &[u8],
     buffer: &[u8],
 ) -> Outcome
     ensures { λ r. ⌜ refusalIn r
-        ≡ lentRefusal registers pins filled (now (state .entry)) (now (rows .entry)) (now (buffer .entry)) ⌝ }
+        ≡ lentRefusal registers inputs filled (now (state .entry)) (now (rows .entry)) (now (buffer .entry)) ⌝ }
 {
     let o = codes_refusal(10, 11, registers, state);
     if let Outcome::Refused(r) = o {
         return Outcome::Refused(r);
     }
-    let p = codes_refusal(12, 13, pins, rows);
+    let p = codes_refusal(12, 13, inputs, rows);
     if let Outcome::Refused(r) = p {
         return Outcome::Refused(r);
     }
