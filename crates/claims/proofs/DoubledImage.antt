@@ -6,7 +6,7 @@ use Rattle.netlist.specs.Image.{sizesOf, netsOf}
 use Rattle.netlist.proofs.Pairs.{pairs-getD}
 use Rattle.netlist.proofs.Checked.{check-none, length-nets}
 use Rattle.doubling.specs.Doubled.{doubledImage}
-use Rattle.doubling.proofs.Positions.{value-end, value-next, group-net, value-register, mark-register, outs-free}
+use Rattle.doubling.proofs.Positions.{value-end, value-next, group-length, group-net, value-register, mark-register, outs-free}
 use Rattle.doubling.proofs.Sums.{start-zero, mark-end}
 use Rattle.doubling.proofs.Checks.{doubled-sizes, doubled-nets, doubled-checked, doubled-bytes, double-accepted}
 use Rattle.claims.specs.DoubledImage.{DoubledChecks, DoublingWrites, DoubledReadsAll, DoubledPlaced, DoubledUnseen}
@@ -33,6 +33,7 @@ doubled-placed s h =
     record {
       first = start-zero xs;
       next = λ i l. rw (add-one i) (value-next xs i (omega (arith, long)));
+      lengths = λ i. group-length xs i _;
       mark = mark-end c;
       end = rw (doubled-sizes s) (value-end xs (sizesOf s .nets) (omega (arith, long)));
       groups = λ i j l m. rw (doubled-nets s) (group-net xs i j (omega (arith, long)) m);

@@ -2,7 +2,7 @@
 use Prim.Native.Nat.{ℕ, zero, suc, _+_, _*_}
 use native.Mathlib.Omega.{arith}
 use mathlib.Core.Path.{_≡_, refl, sym, ap, ap₂}
-use mathlib.Core.List.{List, Forall₂, Forall₂·nil, Forall₂·cons}
+use mathlib.Core.List.{List, [], _∷_, Forall₂, Forall₂·nil, Forall₂·cons}
 use mathlib.Core.Option.{Option, none, some}
 use lib.Dec.{ltb}
 use lib.ListN.{length, getD}
@@ -14,12 +14,12 @@ use Rattle.netlist.proofs.Pairs.{pairs-refl, pairs-length, pairs-append, pairs-
 use Rattle.netlist.proofs.Checked.{Checked, check-none}
 use Rattle.tracker.specs.Cycle.{Cycle, firstOf, firstFlow}
 use Rattle.tracker.specs.Calls.{done, Stepped, powerUpOf, asStep, lentRefusal, stepRefusal, runRefusal}
-use Rattle.tracker.proofs.Cycles.{Related, agree-outputs, agree-cycle, agree-cycles, outputs-of-related, state-after-related}
+use Rattle.tracker.proofs.Cycles.{Related, outputs-length, agree-outputs, agree-cycle, agree-cycles, outputs-of-related, state-after-related}
 use Rattle.tracker.proofs.Calls.{step-none, run-none, starts-state, powered-up}
 use Rattle.doubling.specs.Doubled.{split}
 use Rattle.doubling.proofs.Simulation.{two-more}
 use Rattle.claims.specs.History.{Call, refusalOf, stepped, ran, callResult, history, cyclesIn, Finished, InSteps}
-use Rattle.claims.specs.Pairing.{Shows}
+use Rattle.claims.specs.Pairing.{shown, Shows}
 use Rattle.claims.specs.TwoRun.{Matched, steps, runs, SameCycle, SameCall, turned-back, finished, SameCalls, SameShown, Demand3}
 use Rattle.claims.proofs.Steps.{run-is-steps}
 use Rattle.claims.proofs.History.{turns-back, made-refused, made-step, made-run}
@@ -147,10 +147,20 @@ values-split zero (Forall₂·cons low-high t) e = absurd (omega arith)
 values-split zero (Forall₂·cons high-low t) e = absurd (omega arith)
 values-split (suc j) (Forall₂·cons h t) e = rw (two-more j) (values-split j t (rw (two-one-more j) at e))
 
-same-shown : (s d : List ℕ) (x y u v : Stepped) → Shows s d x u → Shows s d y v → SameCycle x y → SameShown d u v
-same-shown s d x y u v p q r =
+-- two values for each output
+split-length : (xs : List ℕ) → length (split xs) ≡ 2 * length xs
+unfolding split
+split-length [] = refl
+split-length (x ∷ xs) = omega (arith, split-length xs)
+
+shown-length : {s : List ℕ} → Checked s → (d : List ℕ) (x u : Stepped) → Shows s d x u → length (shown d u) ≡ 2 * sizesOf s .outputs
+shown-length {s} c d x u p = rw (p .pairs, split-length, outputs-length, c .outputs)
+
+same-shown : {s : List ℕ} → Checked s → (d : List ℕ) (x y u v : Stepped) → Shows s d x u → Shows s d y v → SameCycle x y → SameShown s d u v
+same-shown {s} c d x y u v p q r =
     let a = agree-outputs 0 (netsOf s) (r .nets) in
     record {
+      outputs = (shown-length c d x u p, shown-length c d y v q);
       marks = λ j l. rw (p .pairs, q .pairs) (marks-split j a);
       values = λ j l e. rw (p .pairs, q .pairs) (values-split j a (rw (p .pairs) at e));
     }
@@ -166,6 +176,6 @@ demand3 s h cs ds m =
           let d = demand2 s h few buf g in
           let x = d .paired a a′ l l′ cs cs′ p in
           let y = d .paired b b′ k k′ ds ds′ q in
-          let shown = pairs-square (same-shown s _) (x .cycles) (y .cycles) (same-cycles s (powered-agree c a b l k) m) in
-          (d .written, x .powered-up .1, y .powered-up .1, x .finished, y .finished, shown);
+          let shown = pairs-square (same-shown c _) (x .cycles) (y .cycles) (same-cycles s (powered-agree c a b l k) m) in
+          (d .written, x .powered-up .1, y .powered-up .1, x .finished, y .finished, x .in-steps, y .in-steps, shown);
     }

@@ -3,7 +3,7 @@ use Prim.Native.Nat.{ℕ, _+_, _≤_, _<_}
 use mathlib.Core.Path.{_≡_}
 use mathlib.Core.List.{List}
 use mathlib.Core.Option.{none}
-use lib.ListN.{getD}
+use lib.ListN.{length, getD}
 use Rattle.gates.specs.Kinds.{REG, OUT}
 use Rattle.netlist.specs.declared.image.Net.{Net}
 use Rattle.netlist.specs.Image.{sizesOf, net, netsOf}
@@ -35,6 +35,7 @@ netOf s i = getD (netsOf s) i (net 0 0 0 0)
 pub record Placed (s : List ℕ) : Type 0 where
   pub first : valueNet (netsOf s) 0 ≡ 0
   pub next : (i : ℕ) → i < sizesOf s .nets → valueNet (netsOf s) (i + 1) ≡ valueNet (netsOf s) i + groupLength (netOf s i .kind)
+  pub lengths : (i : ℕ) → length (groupAt (netsOf s) i (netOf s i)) ≡ groupLength (netOf s i .kind)
   pub mark : (i : ℕ) → markNet (netsOf s) i + 1 ≡ valueNet (netsOf s) (i + 1)
   pub end : valueNet (netsOf s) (sizesOf s .nets) ≡ sizesOf (doubledImage s) .nets
   pub groups :

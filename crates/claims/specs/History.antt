@@ -88,3 +88,10 @@ pub data AllFinished : List CallResult → Type 0 where
 pub data InSteps (s st : List ℕ) : Call → Type 0 where
   a-step : {row nets : List ℕ} → InSteps s st (step row nets)
   a-run : {k : ℕ} {rows outputs : List ℕ} → AsSteps s st k rows outputs → InSteps s st (run k rows outputs)
+
+-- the same of every call of a list
+pub data AllInSteps (s : List ℕ) : List ℕ → List Call → Type 0 where
+  nil : {st : List ℕ} → AllInSteps s st []
+  cons :
+      {st : List ℕ} {c : Call} {cs : List Call}
+      → InSteps s st c → AllInSteps s (callResult s st c .state) cs → AllInSteps s st (c ∷ cs)

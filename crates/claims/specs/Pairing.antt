@@ -9,7 +9,7 @@ use Rattle.netlist.specs.Check.{checkRefusal}
 use Rattle.tracker.specs.Cycle.{outputsFrom}
 use Rattle.tracker.specs.Calls.{Stepped, powerUpOf}
 use Rattle.doubling.specs.Doubled.{doubledSize, doubleOf, split}
-use Rattle.claims.specs.History.{Call, step, run, history, accepted, cyclesIn, AllFinished}
+use Rattle.claims.specs.History.{Call, step, run, history, accepted, cyclesIn, AllFinished, AllInSteps}
 
 -- a call made again on the doubled image d: each row byte as two, and any buffer of the right length
 pub data Again (d : List ℕ) : Call → Call → Type 0 where
@@ -28,6 +28,7 @@ pub record Shows (s d : List ℕ) (o o′ : Stepped) : Type 0 where
 pub record Paired (s d a b : List ℕ) (cs cs′ : List Call) : Type 0 where
   pub powered-up : (powerUpOf s a .refusal ≡ none) × (powerUpOf d b .refusal ≡ none)
   pub finished : AllFinished (history d (powerUpOf d b .state) cs′)
+  pub in-steps : AllInSteps d (powerUpOf d b .state) cs′
   pub cycles : Forall₂ (Shows s d) (cyclesIn (history s (powerUpOf s a .state) cs)) (cyclesIn (history d (powerUpOf d b .state) cs′))
 
 -- what doubling writes into buf, beside its source

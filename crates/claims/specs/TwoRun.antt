@@ -10,7 +10,7 @@ use Rattle.netlist.specs.declared.answer.Refusal.{Refusal}
 use Rattle.netlist.specs.Check.{checkRefusal}
 use Rattle.tracker.specs.Calls.{Stepped, powerUpOf}
 use Rattle.doubling.specs.Doubled.{doubledSize, doubleOf}
-use Rattle.claims.specs.History.{Call, step, run, lent, CallResult, callResult, history, accepted, cyclesIn, TurnedBack, Finished, AllFinished, InSteps}
+use Rattle.claims.specs.History.{Call, step, run, lent, CallResult, callResult, history, accepted, cyclesIn, TurnedBack, Finished, AllFinished, InSteps, AllInSteps}
 use Rattle.claims.specs.Pairing.{Again, shown}
 
 -- what may stand at one place of the two lists
@@ -46,11 +46,12 @@ pub data SameCalls (s : List ℕ) : List ℕ → List ℕ → List Call → List
       → SameCalls s (callResult s st c .state) (callResult s st′ d .state) cs ds
       → SameCalls s st st′ (c ∷ cs) (d ∷ ds)
 
--- in the same cycle of two runs of the doubled image d: equal marks at the outputs, and equal values wherever the mark is 0
-pub record SameShown (d : List ℕ) (o o′ : Stepped) : Type 0 where
-  pub marks : (j : ℕ) → 2 * j + 1 < sizesOf d .outputs → getD (shown d o) (2 * j + 1) 0 ≡ getD (shown d o′) (2 * j + 1) 0
+-- in the same cycle of two runs of the doubled image d of s: d shows two values for each output of s, with equal marks, and equal values wherever the mark is 0
+pub record SameShown (s d : List ℕ) (o o′ : Stepped) : Type 0 where
+  pub outputs : (length (shown d o) ≡ 2 * sizesOf s .outputs) × (length (shown d o′) ≡ 2 * sizesOf s .outputs)
+  pub marks : (j : ℕ) → j < sizesOf s .outputs → getD (shown d o) (2 * j + 1) 0 ≡ getD (shown d o′) (2 * j + 1) 0
   pub values :
-      (j : ℕ) → 2 * j + 1 < sizesOf d .outputs → getD (shown d o) (2 * j + 1) 0 ≡ 0
+      (j : ℕ) → j < sizesOf s .outputs → getD (shown d o) (2 * j + 1) 0 ≡ 0
       → getD (shown d o) (2 * j) 0 ≡ getD (shown d o′) (2 * j) 0
 
 -- from any two states that agree; from power-up, where the two lists' states held the bytes a and b before; and, where doubling doesn't draw 15,
@@ -74,7 +75,9 @@ pub record TwoRun (s : List ℕ) (cs ds : List Call) : Type 0 where
       → let ms = history d (powerUpOf d a′ .state) cs′ in
       let ns = history d (powerUpOf d b′ .state) ds′ in
       (doubleOf s buf .refusal ≡ none) × (powerUpOf d a′ .refusal ≡ none) × (powerUpOf d b′ .refusal ≡ none)
-      × AllFinished ms × AllFinished ns × Forall₂ (SameShown d) (cyclesIn ms) (cyclesIn ns)
+      × AllFinished ms × AllFinished ns
+      × AllInSteps d (powerUpOf d a′ .state) cs′ × AllInSteps d (powerUpOf d b′ .state) ds′
+      × Forall₂ (SameShown s d) (cyclesIn ms) (cyclesIn ns)
 
 -- proved as `demand3`
 abbrev pub Demand3 : Type 0
