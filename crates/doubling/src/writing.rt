@@ -3,7 +3,7 @@ use crate::group::group_of;
 use crate::pins::pair_of;
 use netlist::Net;
 use netlist::Sizes;
-use netlist::net_at;
+use netlist::net_of;
 use netlist::put_net;
 use netlist::put_sizes;
 ghost use mathlib.Core.Path.{_≡_};
@@ -24,7 +24,7 @@ fn group_at(image: &[u8], n: usize, starts: &[u16; 8193], i: usize, v: usize) ->
     ensures { λ r. ⌜ take (groupLength (kindAt (now (image .entry)) i)) r
         ≡ groupAt (netsOf (now (image .entry))) i (netAt (now (image .entry)) n i) ⌝ }
 {
-    let x = net_at(image, n, i);
+    let x = net_of(image, i);
     group_of(
         v,
         x,

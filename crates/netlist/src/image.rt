@@ -2,7 +2,7 @@
 ghost use mathlib.Core.Path.{_≡_};
 ghost use Prim.Native.Nat.{_+_, _*_, _<_};
 ghost use lib.ListN.{length};
-ghost use Rattle.netlist.specs.Image.{u16At, kindAt, operandAt, netAt};
+ghost use Rattle.netlist.specs.Image.{u16At, kindAt, operandAt};
 
 // N, I, R and O.
 pub struct Sizes {
@@ -48,17 +48,4 @@ pub fn operand_at(s: &[u8], n: usize, i: usize, k: usize) -> usize
     ensures { λ r. ⌜ (r ≡ operandAt (now (s .entry)) n i k) × (r < 65536) ⌝ }
 {
     u16_at(s, 8 + n + 6 * i + 2 * k)
-}
-
-// Net i of an image of n nets.
-pub fn net_at(s: &[u8], n: usize, i: usize) -> Net
-    requires { ⌜ (i < n) × (length (now s) ≡ 8 + 7 * n) ⌝ }
-    ensures { λ r. ⌜ r ≡ netAt (now (s .entry)) n i ⌝ }
-{
-    Net {
-        kind: kind_at(s, i),
-        a: operand_at(s, n, i, 0),
-        b: operand_at(s, n, i, 1),
-        c: operand_at(s, n, i, 2),
-    }
 }

@@ -1,4 +1,4 @@
-// The netlist image: readers of what stands in it, its checking, and its writing.
+// The netlist image: a view of it and its readers, its checking, and its writing.
 mod answer;
 mod checking;
 mod image;
@@ -13,10 +13,7 @@ pub use answer::refused;
 pub use checking::check;
 pub use image::Net;
 pub use image::Sizes;
-pub use image::kind_at;
-pub use image::net_at;
 pub use image::operand_at;
-pub use image::u16_at;
 pub use view::View;
 pub use view::kind_of;
 pub use view::net_of;

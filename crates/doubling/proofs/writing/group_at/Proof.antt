@@ -20,12 +20,16 @@ few c = omega (arith, checked c .few-nets, c .pre .1 .0 .0, c .pre .1 .0 .1)
 asked : (c : tie.Start) (i : ℕ) → i < 8192 → (i < 8192) × (0 < getD (c .args .starts .now) (i + 1) 0)
 asked c i h = (h, rw (c .pre .1 .0 .2 (i + 1) (omega arith)) (start-positive (checked c) i))
 
+-- the net that is read
+net-is : (c : tie.After-net-of) → c .net-of .result ≡ netAt (c .before .before .args .image .now) (c .before .before .args .n) (c .before .before .args .i)
+net-is c = rw (c .before .before .pre .1 .0 .0) (c .net-of .ensures)
+
 -- the net's operands are below 8,192, pins or not
-small : (c : tie.After-net-at) → Small (c .net-at .result)
+small : (c : tie.After-net-of) → Small (c .net-of .result)
 small c =
     let begin = c .before .before in
     let n = begin .pre .1 .0 in
-    rw (c .net-at .ensures)
+    rw (net-is c)
     (operands-small (omega (arith, checked begin .few-nets, n .0)) (few begin) (net-passes (checked begin) (n .0) (begin .args .i) (n .1)))
 
 -- what `pair_of` then gives
@@ -41,7 +45,7 @@ group-of-requires c κs =
     let n = begin .pre .1 .0 in
     let i = begin .args .i in (
       omega (arith, begin .pre .1 .1, starts-fit (checked begin) i),
-      rw (read .net-at .ensures) (kind-most (net-passes (checked begin) (n .0) i (n .1))),
+      rw (net-is read) (kind-most (net-passes (checked begin) (n .0) i (n .1))),
     )
 
 returns : tie.Need-returns
@@ -52,7 +56,7 @@ returns c =
     let first = second .before in
     let read = first .before in
     let begin = read .before .before in
-    let x = read .net-at .result in
+    let x = read .net-of .result in
     let a = pair begin (x .a) (small read .a) in
     let b = pair begin (x .b) (small read .b) in
     let k = pair begin (x .c) (small read .c) in
@@ -62,13 +66,13 @@ returns c =
     (first .pair-of .ensures .0 ∙ a .0) (first .pair-of .ensures .1 ∙ a .1)
     (second .pair-of2 .ensures .0 ∙ b .0) (second .pair-of2 .ensures .1 ∙ b .1)
     (third .pair-of3 .ensures .0 ∙ k .0) (third .pair-of3 .ensures .1 ∙ k .1) in
-    rw (read .net-at .ensures) at is
+    rw (net-is read) at is
 
 pub group-at-spec : {M : Type 1} → statement M
 group-at-spec =
     tie.close
     (tie.spec
-    (λ c κs. (c .before .pre .1 .0 .1, rw (c .before .pre .1 .0 .0) (checked (c .before) .exact)))
+    (λ c κs. (rw (← c .before .pre .1 .0 .0) (c .before .pre .1 .0 .1), checked (c .before) .exact))
     (λ c κs. asked (c .before .before) _ (small c .a))
     (λ c κs. asked (c .before .before .before) _ (small (c .before) .b))
     (λ c κs. asked (c .before .before .before .before) _ (small (c .before .before) .c))
