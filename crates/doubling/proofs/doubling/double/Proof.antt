@@ -104,21 +104,12 @@ returns-3 c =
     let failed = double-failed _ _ (passed (write .before .before .before)) _ (sym (recheck check) ∙ ap refusalIn (told .enum-told3 .given .1)) in
     rw (c .refused .ensures, cleared .set-to-0 .ensures, write .write-image .kept .0) (sym failed)
 
-same-length : tie.Need-same-length
-same-length c =
-    let cleared = c .before .before .before in
-    let write = cleared .before .before .before .before .before .before .before .before in
-    cleared .set-to-0 .kept .0 ∙ write .write-image .kept .0
-
 returns-4 : tie.Need-returns-4
 returns-4 c =
     let check = c .before .before in
     let write = check .before .before .before .before in
     rw (write .write-image .ensures)
     (sym (double-passed _ _ (passed (write .before .before .before)) (sym (recheck check) ∙ ap refusalIn (c .enum-told4 .given .1))))
-
-same-length-2 : tie.Need-same-length-2
-same-length-2 c = c .before .before .before .before .before .before .write-image .kept .0
 
 pub double-spec : {M : Type 1} → statement M
 double-spec =
@@ -142,8 +133,8 @@ double-spec =
     (λ c. search needs)
     (λ c κs. search needs)
     (λ c κs. search needs)
-    same-length
+    (λ c. search needs)
     returns-3
     (λ c. search needs)
-    same-length-2
+    (λ c. search needs)
     returns-4)

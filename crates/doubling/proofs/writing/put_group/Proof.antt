@@ -23,11 +23,6 @@ abbrev μ-loop : tie.MeasureT-loop
 loop-holds : tie.Need-loop-holds Inv-loop μ-loop
 loop-holds c = (omega arith, c .before .pre .0 .0, rw add-zero)
 
-array-copy-out-put-net : tie.Need-array-copy-out-put-net Inv-loop μ-loop
-array-copy-out-put-net c =
-    let turn = c .before in
-    omega (arith, turn .loop-test .taken, turn .before .before .before .pre .1 .0 .0)
-
 put-net-requires : tie.Need-put-net-requires Inv-loop μ-loop
 put-net-requires c κs =
     let turn = c .before .before in
@@ -85,7 +80,7 @@ put-group-spec =
     loop-holds
     (λ c. search needs)
     (λ c. search needs)
-    array-copy-out-put-net
+    (λ c. search needs)
     put-net-requires
     (λ c. search needs)
     (λ c. search needs)

@@ -1,7 +1,7 @@
 -- `listing::cycles::take_input` is safe and ends: each turn is one read of at most 65,536 rows, and reads are counted.
 use Prim.Native.Nat.{_-_, _*_, _≤_, _<_}
 use native.Mathlib.Omega.{arith}
-use mathlib.Core.Path.{_≡_, refl, _∙_}
+use mathlib.Core.Path.{_≡_, refl}
 use lib.ListN.{length}
 use borrow.Author.Needs.{needs}
 use borrow.Author.Tests.{ltb-true}
@@ -44,23 +44,6 @@ add-reads c = let turn = c .before .before .before .before .before .before .befo
 loop-less : tie.Need-loop-less Inv-loop μ-loop
 loop-less c = let h = more (c .before .before .before .before .before .before .before .before .before .before .before .before .before) in omega (arith, h)
 
-loop-again : tie.Need-loop-again Inv-loop μ-loop
-loop-again c =
-    let some = c .before .before .before .before .before .before .before .before in
-    let at = some .before .before .before .before .before .before .before in
-    let start = at .before .before .before .before .before .before .before .before .before .before in
-    let text = some .take-some .kept .1 .1 .1 .1 .1 .1 .0 ∙ at .loop .inv .3 in (
-      some .take-some .kept .1 .1 .0 ∙ at .loop .inv .0,
-      some .take-some .kept .1 .1 .1 .0 ∙ at .loop .inv .1,
-      some .take-some .kept .1 .1 .1 .1 .0 ∙ at .loop .inv .2,
-      text,
-      omega (arith, some .take-some .ensures .0, text),
-      omega (arith, some .take-some .ensures .1, at .loop .inv .2, at .loop .inv .5, start .pre .1 .1),
-    )
-
-same-length : tie.Need-same-length Inv-loop μ-loop
-same-length c = let at = c .before .before in at .loop .inv .0 ∙ at .before .before .before .power-up .kept .1 .0
-
 pub take-input-spec : {M : Type 1} → statement M
 take-input-spec =
     tie.close
@@ -72,8 +55,8 @@ take-input-spec =
     take-some-requires
     add-reads
     loop-less
-    loop-again
-    same-length
+    (λ c. search needs)
+    (λ c. search needs)
     (λ c. c .before .before .loop .inv .1)
     (λ c. c .before .before .loop .inv .2)
     (λ c. c .before .before .loop .inv .3)

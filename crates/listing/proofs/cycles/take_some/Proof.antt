@@ -16,9 +16,6 @@ within : (c : tie.After-rows-of)
     → length (take (c .rows-of .result) (c .before .before .before .fill .last .1 .0)) ≤ length (c .before .before .before .before .before .before .before .before .before .before .args .rows .now)
 within c = let read = c .before .before .before in omega (arith, part-length c, c .rows-of .ensures, read .fill .ensures .0, read .fill .kept .1 .0)
 
-slice-reshare-prefix-take-rows : tie.Need-slice-reshare-prefix-take-rows
-slice-reshare-prefix-take-rows c = let part = c .before in omega (arith, part .rows-of .ensures, part .before .before .before .fill .ensures .0)
-
 slice-aggregate-take-rows : tie.Need-slice-aggregate-take-rows
 slice-aggregate-take-rows c = sym (part-length (c .before .before))
 
@@ -47,7 +44,7 @@ take-some-spec =
     (tie.spec
     (λ c κs. search needs)
     (λ c κs. search needs)
-    slice-reshare-prefix-take-rows
+    (λ c. search needs)
     slice-aggregate-take-rows
     take-rows-requires
     (λ c κs. search needs)

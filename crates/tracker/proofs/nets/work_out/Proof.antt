@@ -53,9 +53,6 @@ net-byte-requires c κs =
     let below = c .before .loop-test .taken in
     (start .pre .0, ((below, rw (start .pre .1 .1) (ready start .image .exact), walked .size), walk-readable walked below))
 
-slice-write-nets-2 : tie.Need-slice-write-nets-2 Inv-loop μ-loop
-slice-write-nets-2 c = omega (arith, c .before .before .before .loop .inv .size, c .before .before .loop-test .taken)
-
 loop-again : tie.Need-loop-again Inv-loop μ-loop
 loop-again c =
     let at = c .before .before .before in
@@ -77,7 +74,7 @@ work-out-spec =
     slice-write-nets
     loop-holds
     net-byte-requires
-    slice-write-nets-2
+    (λ c. search needs)
     (λ c. search needs)
     (λ c. search needs)
     loop-again

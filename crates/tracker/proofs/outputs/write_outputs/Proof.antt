@@ -32,11 +32,6 @@ is-out : (c : tie.Then1 Inv-loop μ-loop)
     kindAt (at .before .before .before .before .args .image .now) (at .loop .i) ≡ OUT
 is-out c = sym (c .before .kind-of .ensures) ∙ c .if1 .taken
 
-shared-slice-read-outputs : tie.Need-shared-slice-read-outputs Inv-loop μ-loop
-shared-slice-read-outputs c =
-    let turn = c .before .before .before in
-    omega (arith, turn .loop-test .taken, turn .before .before .before .before .before .pre .1 .0 .1)
-
 -- an OUT has a byte in the buffer
 room : (c : tie.Then1 Inv-loop μ-loop) → let at = c .before .before .before in at .loop .o < length (at .loop .outputs)
 room c = pass-room (c .before .before .before .loop .inv) (c .before .before .loop-test .taken) (is-out c)
@@ -67,7 +62,7 @@ write-outputs-spec =
     μ-loop
     loop-holds
     (λ c κs. search needs)
-    shared-slice-read-outputs
+    (λ c. search needs)
     slice-write-outputs
     add-o
     (λ c. search needs)
