@@ -1,0 +1,1 @@
+// No code: this crate holds the theorems about the others, in specs/ and proofs/.
