@@ -1,14 +1,14 @@
 -- Group after group: what a pass over the nets has left to write at net i, and that each net of a group fits the image.
 use Prim.Native.Nat.{ℕ, zero, suc, _+_, _*_, _≤_, _<_}
 use mathlib.Core.Path.{_≡_, sym, _∙_}
-use mathlib.Core.List.{List, []}
+use mathlib.Core.List.{List}
 use native.Mathlib.Nat.{zero-add, add-zero}
 use native.Mathlib.Numerals.{add-one}
 use native.Mathlib.Omega.{arith}
 use lib.ListN.{length, getD}
 use lib.Seq.{sets}
 use Rattle.netlist.specs.declared.image.Net.{Net}
-use Rattle.netlist.specs.Image.{sizesOf, kindAt, netAt, netsOf, encode}
+use Rattle.netlist.specs.Image.{sizesOf, kindAt, netAt, netsOf, sizeBytes}
 use Rattle.netlist.specs.Writing.{Fits, putNets}
 use Rattle.netlist.proofs.Nets.{netsLeft, nets-next, net-in}
 use Rattle.netlist.proofs.Checked.{Passes, AllPass, nil, cons, operands-small, Checked, length-nets}
@@ -57,7 +57,7 @@ module _ {s : List ℕ} (c : Checked s) {n : ℕ} (e : n ≡ sizesOf s .nets) (i
 
 -- sizes and all groups make up the doubled image
 pub image-laid : (s d : List ℕ) → length d ≡ 8 + 7 * doubledSize (netsOf s)
-    → putNets (sets d 0 (encode (pairedSizes s) [])) (doubledSize (netsOf s)) 0 (doubledNets (netsOf s)) ≡ doubledImage s
+    → putNets (sets d 0 (sizeBytes (pairedSizes s))) (doubledSize (netsOf s)) 0 (doubledNets (netsOf s)) ≡ doubledImage s
 unfolding doubledImage
 image-laid s d h =
     let long = doubled-length (netsOf s) in

@@ -9,12 +9,9 @@ use lib.ListN.{length, getD, drop, length-append, List·getD-append, List·getD-
 use lib.Seq.{getD-append-add, drop-cons}
 use Rattle.netlist.specs.declared.image.Sizes.{Sizes}
 use Rattle.netlist.specs.declared.image.Net.{Net}
-use Rattle.netlist.specs.Image.{sizesOf, u16At, net, netAt, netsFrom, netsOf, u16, operands, encode}
+use Rattle.netlist.specs.Image.{sizesOf, u16At, net, netAt, netsFrom, netsOf, u16, sizeBytes, operands, encode}
 use Rattle.netlist.proofs.Pairs.{pairs-append}
 use Rattle.netlist.proofs.Checked.{kind-most, operands-small, AllPass, nil, cons}
-
-abbrev header : Sizes → List ℕ
-header z = u16 (z .nets) ++ u16 (z .inputs) ++ u16 (z .registers) ++ u16 (z .outputs)
 
 pub operands-length : (xs : List Net) → length (operands xs) ≡ 6 * length xs
 operands-length [] = refl
@@ -52,7 +49,7 @@ operand-at (x ∷ xs) (suc i) c h hc =
 module _ (z : Sizes) (xs : List Net) where
   byte-at : (p i : ℕ) → p ≡ 8 + i → getD (encode z xs) p 0 ≡ getD (map (λ x. x .kind) xs ++ operands xs) i 0
   unfolding encode
-  byte-at p i e = rw e (getD-append-add (header z) (map (λ x. x .kind) xs ++ operands xs) i 0)
+  byte-at p i e = rw e (getD-append-add (sizeBytes z) (map (λ x. x .kind) xs ++ operands xs) i 0)
 
   kind-at : (i : ℕ) → i < length xs → getD (encode z xs) (8 + i) 0 ≡ getD xs i nothing .kind
   kind-at i h =

@@ -8,7 +8,7 @@ use lib.ListN.{length, getD, set, drop, length-append, length-map, length-set, d
 use lib.Seq.{sets, length-sets, drop-cons, getD-set-same, getD-set-other}
 use Rattle.netlist.specs.declared.image.Sizes.{Sizes}
 use Rattle.netlist.specs.declared.image.Net.{Net}
-use Rattle.netlist.specs.Image.{operands, encode}
+use Rattle.netlist.specs.Image.{sizeBytes, operands, encode}
 use Rattle.netlist.specs.Writing.{putNet, putNets}
 use Rattle.netlist.proofs.Encoding.{encode-length, operands-length}
 
@@ -66,29 +66,21 @@ kinds-append (x ∷ xs) ys = ap (λ l. x .kind ∷ l) (kinds-append xs ys)
 -- the image of n nets that is being written: the sizes z and the first nets xs stand in it
 record Begun (d : List ℕ) (n : ℕ) (z : Sizes) (xs : List Net) : Type 0 where
   room : length d ≡ 8 + 7 * n
-  sizes : Stands d 0 (encode z [])
+  sizes : Stands d 0 (sizeBytes z)
   kinds : Stands d 8 (map (λ x. x .kind) xs)
   rest : Stands d (8 + n) (operands xs)
 
 module _ (d : List ℕ) (n : ℕ) (z : Sizes) (xs : List Net) (b : Begun d n z xs) (h : length xs < n) (x : Net) where
-  -- a byte that is neither the net's kind nor of its operands
-  kept : (q : ℕ) → (q < 8 + length xs) → getD (putNet d n (length xs) x) q 0 ≡ getD d q 0
+  -- below its operands, only the net's kind changes
+  only-kind : (q : ℕ) → q < 8 + n + 6 * length xs → getD (putNet d n (length xs) x) q 0 ≡ getD (set d (8 + length xs) (x .kind)) q 0
   unfolding putNet
-  kept q k =
-      sets-before (set d (8 + length xs) (x .kind)) (8 + n + 6 * length xs) (operands (x ∷ [])) q (omega arith)
-      ∙ getD-set-other d (8 + length xs) q (x .kind) 0 (λ e. omega arith)
+  only-kind q l = sets-before (set d (8 + length xs) (x .kind)) (8 + n + 6 * length xs) (operands (x ∷ [])) q l
 
-  kept-operand : (q : ℕ) → 8 + n ≤ q → q < 8 + n + 6 * length xs → getD (putNet d n (length xs) x) q 0 ≡ getD d q 0
-  unfolding putNet
-  kept-operand q k l =
-      sets-before (set d (8 + length xs) (x .kind)) (8 + n + 6 * length xs) (operands (x ∷ [])) q l
-      ∙ getD-set-other d (8 + length xs) q (x .kind) 0 (λ e. omega arith)
+  kept : (q : ℕ) → (q ≡ 8 + length xs → ⊥) → q < 8 + n + 6 * length xs → getD (putNet d n (length xs) x) q 0 ≡ getD d q 0
+  kept q other l = only-kind q l ∙ getD-set-other d (8 + length xs) q (x .kind) 0 other
 
   new-kind : getD (putNet d n (length xs) x) (8 + length xs) 0 ≡ x .kind
-  unfolding putNet
-  new-kind =
-      sets-before (set d (8 + length xs) (x .kind)) (8 + n + 6 * length xs) (operands (x ∷ [])) (8 + length xs) (omega arith)
-      ∙ getD-set-same d (8 + length xs) (x .kind) 0 (omega (arith, b .room))
+  new-kind = only-kind (8 + length xs) (omega arith) ∙ getD-set-same d (8 + length xs) (x .kind) 0 (omega (arith, b .room))
 
   new-operands : Stands (putNet d n (length xs) x) (8 + n + 6 * length xs) (operands (x ∷ []))
   unfolding putNet
@@ -103,13 +95,13 @@ module _ (d : List ℕ) (n : ℕ) (z : Sizes) (xs : List Net) (b : Begun d n z x
       let rest = operands-length xs in
       record {
         room = put-length d n (length xs) x ∙ b .room;
-        sizes = stand-still (λ q k l. kept q (omega arith)) (b .sizes);
+        sizes = stand-still (λ q k l. kept q (λ e. omega arith) (omega arith)) (b .sizes);
         kinds =
             rw (kinds-append xs (x ∷ []))
-            (stand-append (stand-still (λ q k l. kept q (omega (arith, kinds))) (b .kinds)) (rw kinds (cons new-kind nil)));
+            (stand-append (stand-still (λ q k l. kept q (λ e. omega (arith, kinds)) (omega (arith, kinds))) (b .kinds)) (rw kinds (cons new-kind nil)));
         rest =
             rw (operands-append xs (x ∷ []))
-            (stand-append (stand-still (λ q k l. kept-operand q k (omega (arith, rest))) (b .rest)) (rw rest new-operands));
+            (stand-append (stand-still (λ q k l. kept q (λ e. omega arith) (omega (arith, rest))) (b .rest)) (rw rest new-operands));
       }
 
 goes-on : (d : List ℕ) (n : ℕ) (z : Sizes) (xs ys : List Net) → Begun d n z xs → length xs + length ys ≡ n → Begun (putNets d n (length xs) ys) n z (xs ++ ys)
@@ -123,16 +115,16 @@ ends : {d : List ℕ} {n : ℕ} {z : Sizes} {xs : List Net} → Begun d n z xs �
 unfolding encode
 ends {d} {n} {z} {xs} b h =
     let kinds = map (λ (x : Net). x .kind) xs in
-    let at : 8 + n ≡ 0 + length (encode z [] ++ kinds) = omega (arith, length-append (encode z []) kinds, length-map xs (λ (x : Net). x .kind)) in
-    let front : Stands d 0 (encode z [] ++ kinds) = stand-append (b .sizes) (b .kinds) in
-    let whole : Stands d 0 ((encode z [] ++ kinds) ++ operands xs) = stand-append front (subst (λ m. Stands d m (operands xs)) at (b .rest)) in
-    let long : length ((encode z [] ++ kinds) ++ operands xs) ≡ 8 + 7 * length xs = encode-length z xs in
+    let at : 8 + n ≡ 0 + length (sizeBytes z ++ kinds) = omega (arith, length-append (sizeBytes z) kinds, length-map xs (λ (x : Net). x .kind)) in
+    let front : Stands d 0 (sizeBytes z ++ kinds) = stand-append (b .sizes) (b .kinds) in
+    let whole : Stands d 0 ((sizeBytes z ++ kinds) ++ operands xs) = stand-append front (subst (λ m. Stands d m (operands xs)) at (b .rest)) in
+    let long : length ((sizeBytes z ++ kinds) ++ operands xs) ≡ 8 + 7 * length xs = encode-length z xs in
     stand-rest whole (omega (arith, long, b .room))
 
 -- all of it
-pub written : (d : List ℕ) (z : Sizes) (xs : List Net) → length d ≡ 8 + 7 * length xs → putNets (sets d 0 (encode z [])) (length xs) 0 xs ≡ encode z xs
+pub written : (d : List ℕ) (z : Sizes) (xs : List Net) → length d ≡ 8 + 7 * length xs → putNets (sets d 0 (sizeBytes z)) (length xs) 0 xs ≡ encode z xs
 unfolding encode
 written d z xs h =
-    let begun : Begun (sets d 0 (encode z [])) (length xs) z [] =
-    record { room = length-sets d 0 (encode z []) ∙ h; sizes = sets-stand d 0 (encode z []) (omega arith); kinds = nil; rest = nil } in
-    ends (goes-on (sets d 0 (encode z [])) (length xs) z [] xs begun (omega arith)) refl
+    let begun : Begun (sets d 0 (sizeBytes z)) (length xs) z [] =
+    record { room = length-sets d 0 (sizeBytes z) ∙ h; sizes = sets-stand d 0 (sizeBytes z) (omega arith); kinds = nil; rest = nil } in
+    ends (goes-on (sets d 0 (sizeBytes z)) (length xs) z [] xs begun (omega arith)) refl

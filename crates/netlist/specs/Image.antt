@@ -44,13 +44,16 @@ unfoldable pub count : (k : ℕ) → List Net → ℕ
 count k [] = 0
 count k (x ∷ xs) = cond (eqb (x .kind) k) 1 0 + count k xs
 
--- the other way round, for writing: a u16 as its two bytes; the operands of nets, net after net; and the image of the nets xs with the sizes z, whatever these are
+-- the other way round, for writing: a u16 as its two bytes; the four sizes; the operands of nets, net after net; and the image of the nets xs with the sizes z, whatever these are
 abbrev pub u16 : ℕ → List ℕ
 u16 n = n % 256 ∷ n / 256 ∷ []
+
+abbrev pub sizeBytes : Sizes → List ℕ
+sizeBytes z = u16 (z .nets) ++ u16 (z .inputs) ++ u16 (z .registers) ++ u16 (z .outputs)
 
 abbrev pub operands : List Net → List ℕ
 operands [] = []
 operands (x ∷ xs) = u16 (x .a) ++ u16 (x .b) ++ u16 (x .c) ++ operands xs
 
 unfoldable pub encode : Sizes → List Net → List ℕ
-encode z xs = u16 (z .nets) ++ u16 (z .inputs) ++ u16 (z .registers) ++ u16 (z .outputs) ++ map (λ x. x .kind) xs ++ operands xs
+encode z xs = sizeBytes z ++ map (λ x. x .kind) xs ++ operands xs

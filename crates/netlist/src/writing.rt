@@ -6,7 +6,7 @@ ghost use mathlib.Core.List.{[], _∷_};
 ghost use Prim.Native.Nat.{_+_, _*_, _<_, _≤_};
 ghost use lib.ListN.{length};
 ghost use lib.Seq.{sets};
-ghost use Rattle.netlist.specs.Image.{u16, operands, encode};
+ghost use Rattle.netlist.specs.Image.{u16, sizeBytes, operands};
 ghost use Rattle.netlist.specs.Writing.{Fits, putNet};
 
 // A u16 at p, low byte first.
@@ -22,7 +22,7 @@ fn put_u16(d: &mut [u8], p: usize, x: usize)
 pub fn put_sizes(d: &mut [u8], z: Sizes)
     requires { ⌜ 8 ≤ length (now d) ⌝ }
     requires { ⌜ (z .nets < 65536) × (z .inputs < 65536) × (z .registers < 65536) × (z .outputs < 65536) ⌝ }
-    ensures { λ r. ⌜ now (d .exit) ≡ sets (now (d .entry)) 0 (encode z []) ⌝ }
+    ensures { λ r. ⌜ now (d .exit) ≡ sets (now (d .entry)) 0 (sizeBytes z) ⌝ }
 {
     put_u16(d, 0, z.nets);
     put_u16(d, 2, z.inputs);

@@ -1,12 +1,10 @@
 -- `netlist::writing::put_sizes` meets its contract: four u16, one behind the other.
 use mathlib.Core.Path.{_∙_}
 use borrow.Author.Needs.{needs}
-use Rattle.netlist.specs.Image.{encode}
 use Rattle.netlist.proofs.writing.put_sizes.Statement.{statement}
 use Rattle.netlist.proofs.writing.put_sizes.Tie as tie
 
 returns : tie.Need-returns
-unfolding encode
 returns c =
     let fourth = c .before .before in
     let third = fourth .before .before .before .before in
