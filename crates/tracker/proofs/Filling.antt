@@ -1,4 +1,4 @@
--- Filling a lent buffer in order: what stands in it already, and what is left to write.
+-- Filling a lent buffer in order: what stands in it already, and what is left to write; and the passes over nets that fill one.
 use Prim.Native.Nat.{ℕ, _+_, _*_, _≤_, _<_}
 use native.Mathlib.Numerals.{add-one}
 use native.Mathlib.Omega.{arith}

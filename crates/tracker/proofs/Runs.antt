@@ -57,17 +57,18 @@ outputs-of-length xs i (suc k) rows st =
     let more = outputs-of-length xs i k (drop i rows) (cycleOf xs (take i rows) st .state) in
     rw length-append (omega arith)
 
--- THE CYCLES
+-- THE CYCLES of a run on the image s
+abbrev cyclesOn : (s : List ℕ) (k : ℕ) (rows st : List ℕ) → List Cycle
+cyclesOn s = cyclesOf (netsOf s) (sizesOf s .inputs)
+
 pub record Running (s : List ℕ) (k : ℕ) (rows begin : List ℕ) (c m : ℕ) (st outputs : List ℕ) (first : FirstFlow) (row out : ℕ) : Type 0 where
   pub counted : c + m ≡ k
   pub ready : Ready s st (m * sizesOf s .inputs) (drop row rows)
   pub row-upto : row ≤ length rows
-  pub state-is : stateAfter begin (cyclesOf (netsOf s) (sizesOf s .inputs) k rows begin)
-      ≡ stateAfter st (cyclesOf (netsOf s) (sizesOf s .inputs) m (drop row rows) st)
-  pub outputs-are : Filled (outputsOf (cyclesOf (netsOf s) (sizesOf s .inputs) k rows begin)) outputs out
-      (outputsOf (cyclesOf (netsOf s) (sizesOf s .inputs) m (drop row rows) st))
-  pub first-is : firstFlow 0 (cyclesOf (netsOf s) (sizesOf s .inputs) k rows begin)
-      ≡ firstOf (first .cycle) (first .verdict) (firstFlow c (cyclesOf (netsOf s) (sizesOf s .inputs) m (drop row rows) st))
+  pub state-is : stateAfter begin (cyclesOn s k rows begin) ≡ stateAfter st (cyclesOn s m (drop row rows) st)
+  pub outputs-are : Filled (outputsOf (cyclesOn s k rows begin)) outputs out (outputsOf (cyclesOn s m (drop row rows) st))
+  pub first-is : firstFlow 0 (cyclesOn s k rows begin)
+      ≡ firstOf (first .cycle) (first .verdict) (firstFlow c (cyclesOn s m (drop row rows) st))
   pub unset : Unset k first
 
 -- none is done
@@ -106,13 +107,13 @@ module _ {s : List ℕ} {k : ℕ} {rows begin : List ℕ} {c m : ℕ} {st output
   outputs-size : length (this .outputs) ≡ sizesOf s .outputs
   outputs-size = cycle-outputs-length (netsOf s) _ st ∙ sym (r .ready .image .outputs)
 
-  this-outputs : Filled (outputsOf (cyclesOf (netsOf s) (sizesOf s .inputs) k rows begin)) outputs out
-      (this .outputs ++ outputsOf (cyclesOf (netsOf s) (sizesOf s .inputs) m (drop (row + sizesOf s .inputs) rows) (this .state)))
+  this-outputs : Filled (outputsOf (cyclesOn s k rows begin)) outputs out
+      (this .outputs ++ outputsOf (cyclesOn s m (drop (row + sizesOf s .inputs) rows) (this .state)))
   unfolding cyclesOf outputsOf
   this-outputs = rw drop-drop at (r .outputs-are)
 
   pub outputs-fit : out + sizesOf s .outputs ≤ length outputs
-  outputs-fit = omega (arith, this-outputs .room, length-append (this .outputs) (outputsOf (cyclesOf (netsOf s) (sizesOf s .inputs) m (drop (row + sizesOf s .inputs) rows) (this .state))), outputs-size)
+  outputs-fit = omega (arith, this-outputs .room, length-append (this .outputs) (outputsOf (cyclesOn s m (drop (row + sizesOf s .inputs) rows) (this .state))), outputs-size)
 
   pub run-goes-on : Running s k rows begin (suc c) m (this .state)
       (take out outputs ++ (this .outputs ++ drop (out + sizesOf s .outputs) outputs))
@@ -132,7 +133,7 @@ module _ {s : List ℕ} {k : ℕ} {rows begin : List ℕ} {c m : ℕ} {st output
 -- none is left
 pub run-ends : {s : List ℕ} {k : ℕ} {rows begin : List ℕ} {c : ℕ} {st outputs : List ℕ} {first : FirstFlow} {row out : ℕ}
     → Running s k rows begin c 0 st outputs first row out
-    → record { answer = done first; state = st; outputs = outputs } ≡ asRun begin (cyclesOf (netsOf s) (sizesOf s .inputs) k rows begin)
+    → record { answer = done first; state = st; outputs = outputs } ≡ asRun begin (cyclesOn s k rows begin)
 unfolding cyclesOf stateAfter outputsOf firstFlow asRun
 run-ends {k = k} {c = c} r =
     let e : c ≡ k = omega (arith, r .counted) in
