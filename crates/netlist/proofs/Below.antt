@@ -2,11 +2,12 @@
 use Prim.Native.Nat.{ℕ, zero, suc, _+_, _*_, _<_}
 use native.Mathlib.Omega.{arith}
 use mathlib.Core.Path.{_≡_, refl}
-use mathlib.Core.Bool.{Bool, true, false, _&&_}
+use mathlib.Core.Bool.{Bool, true, false}
 use mathlib.Core.Option.{none}
 use lib.Dec.{T, ltb}
 use lib.ListN.{getD}
 use borrow.Author.Tests.{ltb-true}
+use Rattle.gates.proofs.EachCode.{both}
 use Rattle.gates.proofs.Entries.{entry}
 use Rattle.netlist.specs.declared.image.Net.{Net}
 use Rattle.netlist.specs.Image.{net}
@@ -23,12 +24,7 @@ pub place-small : (p : ℕ) → p < 27 → getD limitPlaces p 0 < 5
 unfolding limitPlaces
 place-small p h = ltb-true _ 5 (true-is _ (entry (λ q x. ltb x 5) limitPlaces tt p h))
 
--- the operands, each below its limit
-both : (p q : Bool) → (p && q) ≡ true → (p ≡ true) × (q ≡ true)
-both true q h = (refl, h)
-both false q h = (h, cc)
-
--- a number below 1
+-- the operands, each below its limit: a number below 1
 under-one : (a : ℕ) → ltb a 1 ≡ true → a ≡ 0
 under-one a h = omega (arith, ltb-true a 1 h)
 
