@@ -1,10 +1,11 @@
 -- The theorems. In `Examples`: examples. In `Gates`: mux-composed, gates-monotone. In `Accepted`: when-accepted. In `Unchanged`: unchanged.
--- In `Verdicts`: verdicts, first-flows. In `Steps`: run-is-steps.
+-- In `NetBytes`: net-bytes. In `Verdicts`: verdicts, first-flows. In `Steps`: run-is-steps.
 -- In `DoubledImage`: doubled-checks, doubling-writes, doubled-reads, doubled-placed, doubled-unseen. In `Pairing`: demand2. In `TwoRun`: demand3.
 pub mod Examples
 pub mod Gates
 pub mod Accepted
 pub mod Unchanged
+pub mod NetBytes
 pub mod Verdicts
 pub mod Steps
 pub mod History

@@ -3,6 +3,7 @@ pub mod Examples
 pub mod Gates
 pub mod Accepted
 pub mod Unchanged
+pub mod NetBytes
 pub mod Verdicts
 pub mod Steps
 pub mod History

@@ -19,6 +19,7 @@ use Rattle.netlist.proofs.Refusals.{Codes}
 use Rattle.netlist.proofs.Checked.{Passes, is-const, is-input, is-reg, is-not, is-and, is-or, is-xor, is-mux, is-out, AllPass, nil, cons}
 use Rattle.tracker.specs.Cycle.{Walk, pinByte, netByte, past, walk, bytesOf, outputsFrom, registers, clocked, Cycle, cycleOf}
 use Rattle.tracker.specs.Calls.{start, starts}
+use Rattle.tracker.proofs.Walks.{walk-append}
 use Rattle.tracker.proofs.Selections.{Selection, outputs-selected, registers-selected, selection-append}
 use Rattle.doubling.specs.Doubled.{groupLength, groupLengths, doubledSize, valueNet, markNet, groupOf, groupAt, groupsFrom, doubledNets, split}
 use Rattle.doubling.proofs.Positions.{below-or, Laid, end, next, laid, group-length, value-below, mark-below, mark-second}
@@ -180,11 +181,6 @@ module _ {xs : List Net} {n i : ℕ} {w d : Walk} (ps : AllPass n 0 xs) (l : i <
   step (is-mux h k o) m = gate-step 7 _ _ _ (lit≤ tt) (mux-group _ _ _ _ _ _ bits fits h k o) m
   step (is-out {b = b} h k) m = gate-step 8 _ _ _ (lit≤ tt) (out-group _ _ _ _ _ _ bits fits b h) m
 
-walk-append : (gs hs : List Net) (w : Walk) → walk gateByte (gs ++ hs) w ≡ walk gateByte hs (walk gateByte gs w)
-unfolding walk
-walk-append [] hs w = refl
-walk-append (g ∷ gs) hs w = walk-append gs hs (past gateByte g w)
-
 follow :
     {xs : List Net} {n : ℕ} → AllPass n 0 xs → n ≡ length xs
     → {i : ℕ} {ys : List Net} {w d : Walk} → AllPass n i ys → Laid xs i ys → i + length ys ≡ n
@@ -192,7 +188,7 @@ follow :
 unfolding walk groupsFrom
 follow {xs} ps e {w = w} {d = d} (nil {i}) (end l) h f = subst (λ m. Follows xs m w d) (let k : i ≡ _ = omega arith in k) f
 follow {xs} {n} ps e {w = w} {d = d} (cons {i = i} {x = y} {xs = ys} p qs) (next m ls) h f =
-    rw (walk-append (groupAt xs i y) (groupsFrom xs (suc i) ys) d)
+    rw (walk-append gateByte (groupAt xs i y) (groupsFrom xs (suc i) ys) d)
     (follow ps e qs ls (omega arith) (step ps (omega arith) f p m))
 
 begins : (xs : List Net) (row st : List ℕ) → Codes row → Codes st → Follows xs 0 (at [] row st) (at [] (split row) (split st))

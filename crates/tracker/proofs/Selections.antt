@@ -1,12 +1,14 @@
--- A list with a byte for each net of one kind, in net order from some net on: its length, its parts, and two such lists related place by place.
-use Prim.Native.Nat.{ℕ, suc, _+_}
+-- A list with a byte for each net of one kind, in net order from some net on: its length, its parts, the place of each net, and two such lists related place by place.
+use Prim.Native.Nat.{ℕ, zero, suc, _+_, _<_}
 use native.Mathlib.Nat.{add-zero}
 use native.Mathlib.Omega.{arith}
-use mathlib.Core.Path.{_≡_, refl}
+use mathlib.Core.Path.{_≡_, refl, ap, _∙_}
 use mathlib.Core.List.{List, [], _∷_, _++_, Forall₂, Forall₂·nil, Forall₂·cons}
 use mathlib.Core.Bool.{Bool, true, false, cond}
 use lib.Dec.{eqb}
-use lib.ListN.{length, getD}
+use lib.ListN.{length, getD, take, drop, length-take}
+use lib.Seq.{split-at, getD-at}
+use borrow.Author.Tests.{eq-eqb}
 use Rattle.gates.specs.Kinds.{REG, OUT}
 use Rattle.gates.proofs.Laws.{cond-related}
 use Rattle.netlist.specs.declared.image.Net.{Net}
@@ -48,6 +50,24 @@ selection-append {k} {list} {byte} s i (x ∷ xs) ys =
     let e : i + suc (length xs) ≡ suc i + length xs = omega arith in
     rw (s .next i x (xs ++ ys), s .next i x xs, selection-append s (suc i) xs ys, e)
     (cond-append (eqb (x .kind) k) (byte i x ∷ list (suc i) xs) (list (suc i) xs) _)
+
+-- the place of net j: as many nets of the kind stand before it
+pub place-below : (k : ℕ) (xs : List Net) (j : ℕ) (d : Net) → j < length xs → getD xs j d .kind ≡ k → count k (take j xs) < count k xs
+unfolding count
+place-below k [] j d h e = absurd (omega arith)
+place-below k (x ∷ xs) zero d h e = rw (eq-eqb (x .kind) k e) (omega arith)
+place-below k (x ∷ xs) (suc j) d h e = let t = place-below k xs j d (omega arith) e in omega arith
+
+pub selection-place : {k : ℕ} {list : ℕ → List Net → List ℕ} {byte : ℕ → Net → ℕ} → Selection k list byte
+    → (xs : List Net) (j : ℕ) (d : Net) → j < length xs → getD xs j d .kind ≡ k
+    → getD (list 0 xs) (count k (take j xs)) 0 ≡ byte j (getD xs j d)
+selection-place {k} {list} {byte} s xs j d h e =
+    let x = getD xs j d in
+    let rest = drop (suc j) xs in
+    let l : 0 + length (take j xs) ≡ j = omega (arith, length-take j xs) in
+    ap (λ l. getD (list 0 l) (count k (take j xs)) 0) (split-at xs j d h)
+    ∙ rw (selection-append s 0 (take j xs) (x ∷ rest), l, s .next j x rest, eq-eqb (x .kind) k e)
+    (getD-at (list 0 (take j xs)) (byte j x) (list (suc j) rest) 0 _ (selection-length s 0 (take j xs)))
 
 -- of related bytes
 pub selections-related : (R : ℕ → ℕ → Type 0) {k : ℕ} {l l′ : ℕ → List Net → List ℕ} {b b′ : ℕ → Net → ℕ}

@@ -1,0 +1,59 @@
+-- Demand 2, the first half of its first sentence: each value and each mark is the one that the gate rules give, in every cycle. The other half is Verdicts.
+use Prim.Native.Nat.{ℕ, _≤_, _<_}
+use mathlib.Core.Path.{_≡_}
+use mathlib.Core.List.{List}
+use mathlib.Core.Option.{none}
+use lib.ListN.{length, getD, take}
+use Rattle.gates.specs.Kinds.{CONST, INPUT, REG, NOT, AND, OR, XOR, MUX, OUT}
+use Rattle.gates.specs.Rules.{notByte, andByte, orByte, xorByte, muxByte}
+use Rattle.netlist.specs.declared.image.Net.{Net}
+use Rattle.netlist.specs.Image.{sizesOf, net, netsOf, count}
+use Rattle.netlist.specs.Check.{checkRefusal}
+use Rattle.tracker.specs.Cycle.{Cycle, cycleOf}
+
+-- net i of an image
+abbrev pub netOf : List ℕ → (i : ℕ) → Net
+netOf s i = getD (netsOf s) i (net 0 0 0 0)
+
+-- "Inputs, registers and outputs are each counted in net order": the place of net i among the nets of its kind k is how many of them stand before it
+abbrev pub placeOf : (k : ℕ) (s : List ℕ) (i : ℕ) → ℕ
+placeOf k s i = count k (take i (netsOf s))
+
+-- in a list with a byte for each net of kind k, net i has the byte x
+pub record Counted (k : ℕ) (s : List ℕ) (i : ℕ) (bytes : List ℕ) (x : ℕ) : Type 0 where
+  pub below : placeOf k s i < length bytes
+  pub byte : getD bytes (placeOf k s i) 0 ≡ x
+
+-- in a cycle with this row and state, and with the bytes bs of all nets: what net i may be, and the byte that it then has
+module _ (s row st bs : List ℕ) (i : ℕ) where
+  -- the byte of the net that a pin names. It is a net below i, so that all bytes follow from the row and the state, net after net
+  abbrev pin : (p : ℕ) → ℕ
+  pin p = getD bs p 0
+
+  pub data HasByte : Net → ℕ → Type 0 where
+    const : {a : ℕ} → a ≤ 1 → HasByte (net CONST a 0 0) a
+    input : {x : ℕ} → Counted INPUT s i row x → HasByte (net INPUT 0 0 0) x
+    reg : {a b x : ℕ} → a < sizesOf s .nets → Counted REG s i st x → HasByte (net REG a b 0) x
+    not : {a : ℕ} → a < i → HasByte (net NOT a 0 0) (notByte (pin a))
+    and : {a b : ℕ} → a < i → b < i → HasByte (net AND a b 0) (andByte (pin a) (pin b))
+    or : {a b : ℕ} → a < i → b < i → HasByte (net OR a b 0) (orByte (pin a) (pin b))
+    xor : {a b : ℕ} → a < i → b < i → HasByte (net XOR a b 0) (xorByte (pin a) (pin b))
+    mux : {a b c : ℕ} → a < i → b < i → c < i → HasByte (net MUX a b c) (muxByte (pin a) (pin b) (pin c))
+    out : {a b : ℕ} → a < i → HasByte (net OUT a b 0) (pin a)
+
+-- a cycle c with this row and state: N net bytes; O output bytes, those of the OUTs; and R register bytes after the clock, when every register has taken
+-- the byte of its net, as it was in this cycle
+pub record NetBytes (s row st : List ℕ) (c : Cycle) : Type 0 where
+  pub nets : length (c .bytes) ≡ sizesOf s .nets
+  pub net-byte : (i : ℕ) → i < sizesOf s .nets → HasByte s row st (c .bytes) i (netOf s i) (getD (c .bytes) i 0)
+  pub outputs : length (c .outputs) ≡ sizesOf s .outputs
+  pub output-byte : (i : ℕ) → i < sizesOf s .nets → netOf s i .kind ≡ OUT → Counted OUT s i (c .outputs) (getD (c .bytes) i 0)
+  pub registers : length (c .state) ≡ sizesOf s .registers
+  pub clock : (i : ℕ) → i < sizesOf s .nets → netOf s i .kind ≡ REG → Counted REG s i (c .state) (getD (c .bytes) (netOf s i .a) 0)
+
+-- every cycle on an accepted image, with a row of I bytes and a state of R. An accepted step is one (stepOf), and an accepted run is its steps (Steps).
+-- Proved as `net-bytes`
+abbrev pub NetBytesAll : Type 0
+NetBytesAll =
+    (s row st : List ℕ) → checkRefusal s ≡ none → length row ≡ sizesOf s .inputs → length st ≡ sizesOf s .registers
+    → NetBytes s row st (cycleOf (netsOf s) row st)
