@@ -5,10 +5,10 @@ use mathlib.Core.List.{List}
 use mathlib.Core.Option.{none}
 use lib.ListN.{length, getD}
 use Rattle.gates.specs.Kinds.{REG, OUT}
-use Rattle.netlist.specs.declared.image.Net.{Net}
 use Rattle.netlist.specs.Image.{sizesOf, net, netsOf}
 use Rattle.netlist.specs.Check.{checkRefusal}
 use Rattle.doubling.specs.Doubled.{groupLength, groupAt, doubledSize, valueNet, markNet, doubledNets, doubledImage, doubleRefusal, doubleOf}
+use Rattle.claims.specs.NetBytes.{netOf}
 
 -- every image that doubling writes passes checking, so 17 is never given; proved as `doubled-checks`
 abbrev pub DoubledChecks : Type 0
@@ -25,10 +25,6 @@ pub record DoubledReads (s : List ℕ) : Type 0 where
 
 abbrev pub DoubledReadsAll : Type 0
 DoubledReadsAll = (s : List ℕ) → checkRefusal s ≡ none → doubledSize (netsOf s) ≤ 8192 → DoubledReads s
-
--- net i of an image
-abbrev netOf : List ℕ → (i : ℕ) → Net
-netOf s i = getD (netsOf s) i (net 0 0 0 0)
 
 -- "groups in net order. The first net of a group is the value net v, the last the mark net t": the groups fill the doubled netlist from net 0 on, with no
 -- gap, and net j of the group of net i stands j nets behind its value net
