@@ -1,6 +1,6 @@
-// The view of an image: the caller's bytes and the four counts that they begin with. Nothing is copied. The borrow checker covers no function over
-// a struct that holds a slice, so each of these is proved by hand, and is thin: it leaves the work to a function of src/image.rt, which takes the
-// slice and numbers.
+// The view of an image: the caller's bytes and the four counts that they begin with. Nothing is copied. The borrow checker covers no function that
+// takes, makes or holds a struct with a slice in it, so the four functions of `View`, and `sizes_of`, `kind_of` and `operand_of`, are proved by hand.
+// They are thin: the bytes are read by functions of src/image.rt, which take the slice and numbers.
 use crate::image::Net;
 use crate::image::Sizes;
 use crate::image::kind_at;
@@ -65,7 +65,8 @@ impl<'a> View<'a> {
     }
 }
 
-// The same of a slice, for callers that hold no view. Each makes one and reads through it; whoever calls it needs no proof by hand.
+// The same of a slice, for callers that hold no view. The first three make a view and read through it, and `net_of` calls them; whoever calls these
+// needs no proof by hand.
 
 // N, I, R and O of an image.
 pub fn sizes_of(image: &[u8]) -> Sizes

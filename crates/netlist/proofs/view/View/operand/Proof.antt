@@ -41,7 +41,7 @@ use Rattle.netlist.specs.Image.{operandAt}
 use Rattle.netlist.specs.declared.view.View.{View}
 use Rattle.netlist.proofs.view.View as T
 use Rattle.netlist.proofs.view.View.Laws as T′
-use Rattle.netlist.proofs.Views.{Row, viewVal, imageVal, Own, ImageOwn, image-out}
+use Rattle.netlist.proofs.Views.{ViewType, viewVal, imageVal, Own, ImageOwn, image-out}
 use Rattle.netlist.proofs.image.operand_at as callee
 use Rattle.netlist.proofs.image.operand_at.Symbol as callee-def
 use Rattle.netlist.proofs.image.operand_at.Symbol.{name as #operand-at}
@@ -52,7 +52,7 @@ use Rattle.netlist.proofs.view.View.operand.Statement as stated
 use Rattle.netlist.proofs.view.View.operand.Code as code
 
 abbrev stayed : Stays (self.ended .signature .params) (self.ended .kept)
-stayed = (stay-none Row yes, (stay-none (λ _. usize) yes, (stay-none (λ _. usize) yes, tt)))
+stayed = (stay-none ViewType yes, (stay-none (λ _. usize) yes, (stay-none (λ _. usize) yes, tt)))
 
 module _ {M : Type 1} (𝓤 : URA M) (H : Heap 𝓤) (A : Atoms 𝓤) (mem : Memory → SProp 𝓤) (run : Routine → Fun 𝓤) where
   -- the contract that the proof cites
@@ -85,7 +85,7 @@ module _ {M : Type 1} (𝓤 : URA M) (H : Heap 𝓤) (A : Atoms 𝓤) (W : Given
   -- a view gives what the callee asks, and is kept
   apart : d .nets < 2 ^ 64 → Asked → ent 𝓤 (onEntry 𝓤 H A self.signature (κ, tt) (q, tt) (d, (i, (k, tt))) at) (sep 𝓤 (Callee 𝓤 H A mem run .pre to) (sem 𝓤 H A (Own κ d)))
   apart nets-fits within =
-      qed W ((‵ (flft κ q) ⊛ ‵ ftrue) ∷ ‵ (owns (Row (κ, tt) ∷ usize ∷ usize ∷ []) (d, (i, (k, tt))) at) ∷ []) ∵
+      qed W ((‵ (flft κ q) ⊛ ‵ ftrue) ∷ ‵ (owns (ViewType (κ, tt) ∷ usize ∷ usize ∷ []) (d, (i, (k, tt))) at) ∷ []) ∵
       move ! (1 ∷ []) $ fsplit ! $ move ! (1 ∷ []) $ drop ! $ use1 W (‵ (ImageOwn κ (d .image)) ⊛ ‵ (Own κ d)) (image-out 𝓤 H A W κ d) $ split ! $
       -- [what the image owns; what the view owns; the token]
       nothing ! $ owned ! usize (Is usize) (uint-makes 𝓤 H A W w64) k _ (refl, k-fits) $ fjoin ! $ owned ! usize (Is usize) (uint-makes 𝓤 H A W w64) i _ (refl, i-fits) $ fjoin ! $ owned ! usize (Is usize) (uint-makes 𝓤 H A W w64) (d .nets) _ (refl, nets-fits) $ fjoin ! $ move ! (1 ∷ 0 ∷ []) $ fjoin ! $
@@ -128,7 +128,7 @@ module _ {M : Type 1} (𝓤 : URA M) (H : Heap 𝓤) (A : Atoms 𝓤) (W : Given
 operand-meets : {M : Type 1} (𝓤 : URA M) (H : Heap 𝓤) (A : Atoms 𝓤) (W : Given 𝓤 H A) (mem : Memory → SProp 𝓤) (run : Routine → Fun 𝓤) (𝓣 : Tables 𝓤 H)
     → Triple 𝓤 (𝓣 .C #operand-at) (Callee 𝓤 H A mem run)
     → Meets 𝓤 H A self.signature (WpFn 𝓤 H (𝓣 .C) (𝓣 .Λ) code.function) (self.spec 𝓤 H A mem run)
-operand-meets 𝓤 H A W mem run 𝓣 known = walk-meets 𝓤 H A self.ended stayed W (goes-none 𝓤 H A W 1 Row yes (λ κs x f. refl), (goes-none 𝓤 H A W 1 (λ _. usize) yes (λ κs x f. refl), (goes-none 𝓤 H A W 1 (λ _. usize) yes (λ κs x f. refl), tt))) (self.clauses 𝓤 H A mem run) (WpFn 𝓤 H (𝓣 .C) (𝓣 .Λ) code.function) (WpFn-mono 𝓤 H (W .laws) 𝓣 code.function)
+operand-meets 𝓤 H A W mem run 𝓣 known = walk-meets 𝓤 H A self.ended stayed W (goes-none 𝓤 H A W 1 ViewType yes (λ κs x f. refl), (goes-none 𝓤 H A W 1 (λ _. usize) yes (λ κs x f. refl), (goes-none 𝓤 H A W 1 (λ _. usize) yes (λ κs x f. refl), tt))) (self.clauses 𝓤 H A mem run) (WpFn 𝓤 H (𝓣 .C) (𝓣 .Λ) code.function) (WpFn-mono 𝓤 H (W .laws) 𝓣 code.function)
     (operand-walks 𝓤 H A W mem run (𝓣 .C) (𝓣 .Λ) (fmOf 𝓤 H (W .laws) 𝓣) known)
 
 pub operand-spec : {M : Type 1} → stated.statement M

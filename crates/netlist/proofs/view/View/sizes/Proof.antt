@@ -33,14 +33,14 @@ use Rattle.netlist.proofs.view.View as T
 use Rattle.netlist.proofs.view.View.Laws as T′
 use Rattle.netlist.proofs.image.Sizes as Z
 use Rattle.netlist.proofs.image.Sizes.Laws as Z′
-use Rattle.netlist.proofs.Views.{Row, viewVal}
+use Rattle.netlist.proofs.Views.{ViewType, viewVal}
 use Rattle.netlist.proofs.view.View.sizes.Key.{name as #sizes}
 use Rattle.netlist.proofs.view.View.sizes as self
 use Rattle.netlist.proofs.view.View.sizes.Statement as stated
 use Rattle.netlist.proofs.view.View.sizes.Code as code
 
 abbrev stayed : Stays (self.ended .signature .params) (self.ended .kept)
-stayed = (stay-none Row yes, tt)
+stayed = (stay-none ViewType yes, tt)
 
 module _ {M : Type 1} (𝓤 : URA M) (H : Heap 𝓤) (A : Atoms 𝓤) (W : Given 𝓤 H A) (mem : Memory → SProp 𝓤) (run : Routine → Fun 𝓤) (κ : Lft) (q : Share) (d : View) where
   -- the machine value of the counts
@@ -52,7 +52,7 @@ module _ {M : Type 1} (𝓤 : URA M) (H : Heap 𝓤) (A : Atoms 𝓤) (W : Given
 
   exits : Is Z.the-row (countsOf d) (found ∷ []) → ent 𝓤 (onEntry 𝓤 H A self.signature (κ, tt) (q, tt) (d, tt) (viewVal d ∷ [], tt)) (Post found)
   exits made =
-      qed W ((‵ (flft κ q) ⊛ ‵ ftrue) ∷ ‵ (owns (Row (κ, tt) ∷ []) (d, tt) (viewVal d ∷ [], tt)) ∷ []) ∵
+      qed W ((‵ (flft κ q) ⊛ ‵ ftrue) ∷ ‵ (owns (ViewType (κ, tt) ∷ []) (d, tt) (viewVal d ∷ [], tt)) ∷ []) ∵
       suffices ! _ (ends-at 𝓤 H A self.ended stayed (self.clauses 𝓤 H A mem run) W (((κ, tt), (q, tt), tt, (d, tt), (viewVal d ∷ [], tt)), tt) found (countsOf d) (tt, tt) (tt, tt)) $ says ! refl $
       frame ! $ frame ! $ owned ! Z.the-row (Is Z.the-row) (LL.makes Z.the-type Z′.the-plain 𝓤 H A) (countsOf d) _ made $ done !
 
@@ -63,7 +63,7 @@ module _ {M : Type 1} (𝓤 : URA M) (H : Heap 𝓤) (A : Atoms 𝓤) (W : Given
         let inputs = wt .1 .1 .1 .0 in
         let registers = wt .1 .1 .1 .1 .0 in
         let outputs = wt .1 .1 .1 .1 .1 .0 in
-        qed W ((‵ (flft κ q) ⊛ ‵ ftrue) ∷ ‵ (owns (Row (κ, tt) ∷ []) (d, tt) (viewVal d ∷ [], tt)) ∷ []) ∵ enter ! C Λ code.function (viewVal d ∷ []) _ $
+        qed W ((‵ (flft κ q) ⊛ ‵ ftrue) ∷ ‵ (owns (ViewType (κ, tt) ∷ []) (d, tt) (viewVal d ∷ [], tt)) ∷ []) ∵ enter ! C Λ code.function (viewVal d ∷ []) _ $
         alloc1 ! (λ l₀. alloc1 ! (λ l₁. alloc1 ! (λ l₂. alloc1 ! (λ l₃. alloc1 ! (λ l₄. alloc1 ! (λ l₅. alloc0 ! $ params1 ! $ pass1 ! (init ! 8 refl wt) $ pass0 ! $
         -- [_5; …; _4; …; _3; …; _2; …; _1; …; room for _0; …; the token; what the view owns]
         assigns ! (of-opd ! (load ! (from ! (fld ! refl (stop !))) (look-in ! 8 (sub ! 1 refl (whole !))))) (from ! (stop !)) (init ! 6 refl (tt, nets)) $
@@ -82,7 +82,7 @@ module _ {M : Type 1} (𝓤 : URA M) (H : Heap 𝓤) (A : Atoms 𝓤) (W : Given
 
 sizes-meets : {M : Type 1} (𝓤 : URA M) (H : Heap 𝓤) (A : Atoms 𝓤) → Given 𝓤 H A → (mem : Memory → SProp 𝓤) (run : Routine → Fun 𝓤) (𝓣 : Tables 𝓤 H)
     → Meets 𝓤 H A self.signature (WpFn 𝓤 H (𝓣 .C) (𝓣 .Λ) code.function) (self.spec 𝓤 H A mem run)
-sizes-meets 𝓤 H A W mem run 𝓣 = walk-meets 𝓤 H A self.ended stayed W (goes-none 𝓤 H A W 1 Row yes (λ κs x f. refl), tt) (self.clauses 𝓤 H A mem run) (WpFn 𝓤 H (𝓣 .C) (𝓣 .Λ) code.function) (WpFn-mono 𝓤 H (W .laws) 𝓣 code.function) (sizes-walks 𝓤 H A W mem run (𝓣 .C) (𝓣 .Λ))
+sizes-meets 𝓤 H A W mem run 𝓣 = walk-meets 𝓤 H A self.ended stayed W (goes-none 𝓤 H A W 1 ViewType yes (λ κs x f. refl), tt) (self.clauses 𝓤 H A mem run) (WpFn 𝓤 H (𝓣 .C) (𝓣 .Λ) code.function) (WpFn-mono 𝓤 H (W .laws) 𝓣 code.function) (sizes-walks 𝓤 H A W mem run (𝓣 .C) (𝓣 .Λ))
 
 pub sizes-spec : {M : Type 1} → stated.statement M
 unfolding code.routine tablesOf
