@@ -94,33 +94,10 @@ module _ (d : List ℕ) (p : ℕ) (line : List ℕ) {n : ℕ} (counted : n ≡ l
   unfolding put
   line-left h = rw (rw counted at h)
 
--- in either case the next place is within the buffer, if the place was
-pub place-within : (d : List ℕ) (p : ℕ) (line : List ℕ) {d′ : List ℕ} {p′ : ℕ} → did d′ p′ ≡ put d p line → p ≤ length d → p′ ≤ length d′
+-- a line that fits is put
+pub put-fits : (d : List ℕ) (p : ℕ) (line : List ℕ) → p + length line ≤ length d → put d p line ≡ did (sets d p line) (p + length line)
 unfolding put
-place-within d p line {d′} {p′} e h = by (leb (p + length line) (length d)) refl
-  where
-    by : (b : Bool) → leb (p + length line) (length d) ≡ b → p′ ≤ length d′
-    by true t =
-        let f : did d′ p′ ≡ did (sets d p line) (p + length line) = e ∙ rw t in
-        let l = leb-true (p + length line) (length d) t in
-        omega (arith, l, ap (λ (x : Put). x .place) f, ap (λ (x : Put). length (x .buffer)) f, length-sets d p line)
-    by false t =
-        let f : did d′ p′ ≡ did d p = e ∙ rw t in
-        omega (arith, ap (λ (x : Put). x .place) f, ap (λ (x : Put). length (x .buffer)) f)
-
--- a line that fits is put, and stands behind what was there
-module _ (d : List ℕ) (p : ℕ) (line : List ℕ) (h : p + length line ≤ length d) {d′ : List ℕ} {p′ : ℕ} (e : did d′ p′ ≡ put d p line) where
-  put-is : did d′ p′ ≡ did (sets d p line) (p + length line)
-  unfolding put
-  put-is = e ∙ rw (le-leb (p + length line) (length d) h)
-
-  put-place : p′ ≡ p + length line
-  put-place = ap (λ (x : Put). x .place) put-is
-
-  pub put-text : take p′ d′ ≡ take p d ++ line
-  put-text =
-      let size : length (take p d ++ line) ≡ p + length line = rw (length-append, length-take-le p d (omega arith)) in
-      rw (put-place, ap (λ (x : Put). x .buffer) put-is, sets-eq line d p h) (take-at (take p d ++ line) (drop (p + length line) d) (p + length line) size)
+put-fits d p line h = rw (le-leb (p + length line) (length d) h)
 
 -- OUTPUTS. No output is a -, and others are their digits
 pub no-outputs : (xs : List ℕ) → length xs ≡ 0 → outputDigits xs ≡ 45 ∷ []

@@ -1,0 +1,5 @@
+-- Laws of the lines that are printed, of the rows that are taken, of the turns in which they are read, and of the whole listing.
+pub mod Printing
+pub mod Taking
+pub mod Turns
+pub mod Listings

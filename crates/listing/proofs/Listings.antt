@@ -1,0 +1,59 @@
+-- The three ways in which a listing goes.
+use Prim.Native.Nat.{ℕ, zero, suc, _≤_}
+use native.Mathlib.Omega.{arith}
+use mathlib.Core.Path.{_≡_, refl, sym, ap, _∙_}
+use mathlib.Core.Bool.{true}
+use mathlib.Core.List.{List, [], _∷_}
+use mathlib.Core.Option.{none, some}
+use lib.ListN.{length, take, replicate}
+use borrow.Author.Tests.{eq-eqb, ne-eqb}
+use Rattle.netlist.specs.declared.image.Sizes.{Sizes}
+use Rattle.netlist.specs.Image.{sizesOf}
+use Rattle.netlist.specs.declared.answer.Refusal.{Refusal}
+use Rattle.netlist.specs.Check.{checkRefusal}
+use Rattle.netlist.proofs.Checked.{check-none}
+use Rattle.tracker.specs.Calls.{PoweredUp, powerUpOf}
+use Rattle.tracker.proofs.Calls.{powered-up}
+use Rattle.listing_text.specs.Lines.{endLine, refusedLine}
+use Rattle.listing.specs.declared.output.Progress.{Progress}
+use Rattle.listing.specs.Printed.{Printed, printed, blank, withLast}
+use Rattle.listing.specs.Rows.{Listed, rowsOf, withRows, withEnd, Lists}
+use Rattle.listing.specs.Listing.{poweredUp, listingOf, Listing}
+
+-- nothing is printed yet
+pub blank-is : (text : List ℕ) (p : Progress) → p .cycles ≡ 0 → p .used ≡ 0 → p .open ≡ true → printed text p ≡ blank text
+blank-is text p n u o = cc
+
+-- the first bytes of a buffer of zeros
+zeros-part : (m n : ℕ) → m ≤ n → take {A = ℕ} m (replicate n 0) ≡ replicate m 0
+zeros-part zero n h = refl
+zeros-part (suc m) zero h = absurd (omega arith)
+zeros-part (suc m) (suc n) h = ap (λ (l : List ℕ). 0 ∷ l) (zeros-part m n (omega arith))
+
+-- what is printed as the listing
+pub listing-is : {s text : List ℕ} {p q : Printed} → p ≡ q → Listing s text q → Listing s text p
+listing-is e l = record { input = l .input; is = e ∙ l .is }
+
+-- end, with no cycle
+pub end-blank : (text : List ℕ) (p : Progress) → p .cycles ≡ 0 → p .used ≡ 0 → p .open ≡ true → withLast (endLine (p .cycles)) (printed text p) ≡ withLast (endLine 0) (blank text)
+end-blank text p n u o = cc
+
+module _ (s text : List ℕ) where
+  pub listing-refused : {r : Refusal} → checkRefusal s ≡ some r → Listing s text (withLast (refusedLine r) (blank text))
+  unfolding listingOf
+  listing-refused h = record { input = []; is = rw (h, listingOf) }
+
+  module _ (accepted : checkRefusal s ≡ none) where
+    pub listing-end : sizesOf s .inputs ≡ 0 → Listing s text (withLast (endLine 0) (blank text))
+    unfolding listingOf
+    listing-end e = record { input = []; is = rw (accepted, eq-eqb (sizesOf s .inputs) 0 e, listingOf) }
+
+    pub listing-rows : {z : Sizes} {n : ℕ} {after : Listed} (st : List ℕ) → z ≡ sizesOf s → (z .inputs ≡ 0 → ⊥) → length st ≡ z .registers → z .outputs ≤ n
+        → Lists s (z .inputs) (record { state = powerUpOf s st .state; outputs = take (z .outputs) (replicate n 0); printed = blank text }) after
+        → Listing s text (after .printed)
+    unfolding listingOf
+    listing-rows {z} {n} {after} st e i l o lists =
+        let up : powerUpOf s st .state ≡ poweredUp s text .state = ap (λ (p : PoweredUp). p .state) (powered-up s st (check-none s .0 accepted) (rw e at l)) in
+        let outs = zeros-part (z .outputs) n o in
+        let f : after ≡ withEnd (withRows s (sizesOf s .inputs) (rowsOf (sizesOf s .inputs) (lists .input)) (poweredUp s text)) = rw (up, outs, e) at (lists .is) in
+        record { input = lists .input; is = ap (λ (x : Listed). x .printed) f ∙ rw (accepted, ne-eqb (sizesOf s .inputs) 0 (rw e at i), listingOf) }
