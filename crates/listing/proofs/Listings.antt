@@ -6,7 +6,7 @@ use mathlib.Core.Bool.{true}
 use mathlib.Core.List.{List, [], _∷_}
 use mathlib.Core.Option.{none, some}
 use lib.ListN.{length, take, replicate}
-use borrow.Author.Tests.{eq-eqb, ne-eqb}
+use borrow.Author.Tests.{eqb-true, eq-eqb, ne-eqb}
 use Rattle.netlist.specs.declared.image.Sizes.{Sizes}
 use Rattle.netlist.specs.Image.{sizesOf}
 use Rattle.netlist.specs.declared.answer.Refusal.{Refusal}
@@ -18,7 +18,7 @@ use Rattle.listing_text.specs.Lines.{endLine, refusedLine}
 use Rattle.listing.specs.declared.output.Progress.{Progress}
 use Rattle.listing.specs.Printed.{Printed, printed, blank, withLast}
 use Rattle.listing.specs.Rows.{Listed, rowsOf, withRows, withEnd, Lists}
-use Rattle.listing.specs.Listing.{poweredUp, listingOf, Listing}
+use Rattle.listing.specs.Listing.{poweredUp, readsNone, listingOf, Listing}
 
 -- nothing is printed yet
 pub blank-is : (text : List ℕ) (p : Progress) → p .cycles ≡ 0 → p .used ≡ 0 → p .open ≡ true → printed text p ≡ blank text
@@ -30,23 +30,23 @@ zeros-part zero n h = refl
 zeros-part (suc m) zero h = absurd (omega arith)
 zeros-part (suc m) (suc n) h = ap (λ (l : List ℕ). 0 ∷ l) (zeros-part m n (omega arith))
 
--- what is printed as the listing
-pub listing-is : {s text : List ℕ} {p q : Printed} → p ≡ q → Listing s text q → Listing s text p
-listing-is e l = record { input = l .input; is = e ∙ l .is }
-
 -- end, with no cycle
 pub end-blank : (text : List ℕ) (p : Progress) → p .cycles ≡ 0 → p .used ≡ 0 → p .open ≡ true → withLast (endLine (p .cycles)) (printed text p) ≡ withLast (endLine 0) (blank text)
 end-blank text p n u o = cc
 
 module _ (s text : List ℕ) where
-  pub listing-refused : {r : Refusal} → checkRefusal s ≡ some r → Listing s text (withLast (refusedLine r) (blank text))
+  pub listing-refused : {r : Refusal} → checkRefusal s ≡ some r → withLast (refusedLine r) (blank text) ≡ listingOf s [] text
   unfolding listingOf
-  listing-refused h = record { input = []; is = rw (h, listingOf) }
+  listing-refused h = rw (h, listingOf)
 
   module _ (accepted : checkRefusal s ≡ none) where
-    pub listing-end : sizesOf s .inputs ≡ 0 → Listing s text (withLast (endLine 0) (blank text))
+    pub reads-none : readsNone s ≡ true → sizesOf s .inputs ≡ 0
+    unfolding readsNone
+    reads-none h = eqb-true (sizesOf s .inputs) 0 (rw (accepted, readsNone) at h)
+
+    pub listing-end : sizesOf s .inputs ≡ 0 → withLast (endLine 0) (blank text) ≡ listingOf s [] text
     unfolding listingOf
-    listing-end e = record { input = []; is = rw (accepted, eq-eqb (sizesOf s .inputs) 0 e, listingOf) }
+    listing-end e = rw (accepted, eq-eqb (sizesOf s .inputs) 0 e, listingOf)
 
     pub listing-rows : {z : Sizes} {n : ℕ} {after : Listed} (st : List ℕ) → z ≡ sizesOf s → (z .inputs ≡ 0 → ⊥) → length st ≡ z .registers → z .outputs ≤ n
         → Lists s (z .inputs) (record { state = powerUpOf s st .state; outputs = take (z .outputs) (replicate n 0); printed = blank text }) after

@@ -13,7 +13,7 @@ use Rattle.listing_text.specs.Lines.{Put, put, did, endLine, refusedLine}
 use Rattle.listing_text.proofs.Decimal.{decimal-most}
 use Rattle.listing_text.proofs.Lengths.{end-length, refused-length}
 use Rattle.listing_text.proofs.Putting.{put-fits}
-use Rattle.listing.specs.Printed.{Printed, nextPlace, placeIn, writtenOut, withLast}
+use Rattle.listing.specs.Printed.{Printed, nextPlace, placeIn, withLast}
 
 -- the text is written out first where the longest line might not fit, and otherwise stays
 pub next-first : (n used : ℕ) → n - used < 8240 → nextPlace n used ≡ 0
@@ -45,7 +45,7 @@ module _ (p : Printed) (line : List ℕ) (large : 8240 ≤ length (p .text)) (wi
   put-within = omega (arith, next-put .1, ap length (next-put .0), length-sets (p .text) (placeIn p) line, next-room (length (p .text)) (p .used) large within)
 
   -- a last line is written out
-  pub last-put : {q : Printed} {n : ℕ} → n ≡ p .cycles → q ≡ writtenOut (record { text = text; used = used; cycles = n; goesOn = false }) → q ≡ withLast line p
+  pub last-put : {q : Printed} {n : ℕ} → n ≡ p .cycles → q ≡ record { text = text; used = 0; cycles = n; goesOn = false } → q ≡ withLast line p
   unfolding withLast
   last-put i f = f ∙ rw (i, next-put .0)
 

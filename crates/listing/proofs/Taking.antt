@@ -2,7 +2,7 @@
 use Prim.Native.Nat.{ℕ, zero, suc, _+_, _-_, _≤_, _<_}
 use native.Mathlib.Omega.{arith}
 use mathlib.Core.Path.{_≡_, refl, sym, _∙_}
-use mathlib.Core.Bool.{Bool, true, false, _&&_, not, cond}
+use mathlib.Core.Bool.{Bool, true, false, _&&_, _||_, not, cond}
 use lib.Dec.{ltb}
 use mathlib.Core.List.{List, [], _∷_}
 use lib.ListN.{length, take, drop, length-drop}
@@ -19,7 +19,7 @@ use Rattle.listing.specs.declared.output.Progress.{Progress}
 use Rattle.listing.specs.Printed.{printed, withCycle, withLast}
 use Rattle.listing.specs.Rows.{Listed, listed, withAnswer, withRow, withShort, rowsUpTo, rowsOf, withRows, withEnd, takenOf, withRead}
 
--- THREE TESTS: a listing that goes on without a failure, and a third
+-- TESTS: a listing that goes on without a failure, and a third test; and neither of two
 pub goes-on : (p q r : Bool) → ((p && not q) && r) ≡ true → (p ≡ true) × (q ≡ false) × (r ≡ true)
 goes-on true false r h = (refl, refl, h)
 goes-on true true r h = (cc, cc, cc)
@@ -29,6 +29,10 @@ pub goes-no-further : (p q r : Bool) → ((p && not q) && r) ≡ false → p ≡
 goes-no-further true false r h e f = h
 goes-no-further true true r h e f = cc
 goes-no-further false q r h e f = cc
+
+pub neither-of : (p q : Bool) → (p || q) ≡ false → (p ≡ false) × (q ≡ false)
+neither-of false q h = (refl, h)
+neither-of true q h = (cc, cc)
 
 -- what would have failed did not, since nothing failed
 pub none-failed : (b c : Bool) → (b ≡ true → c ≡ true) → c ≡ false → b ≡ false

@@ -3,7 +3,7 @@ use Prim.Native.Nat.{ℕ}
 use mathlib.Core.Path.{_≡_}
 use mathlib.Core.List.{List}
 use mathlib.Core.Option.{none, some}
-use mathlib.Core.Bool.{cond}
+use mathlib.Core.Bool.{Bool, true, cond}
 use lib.Dec.{eqb}
 use lib.ListN.{replicate}
 use Rattle.netlist.specs.Image.{sizesOf, netsOf}
@@ -16,6 +16,14 @@ use Rattle.listing.specs.Rows.{Listed, rowsOf, withRows, withEnd}
 -- where the rows begin: the state at power-up, a buffer for O output bytes, and nothing printed
 abbrev pub poweredUp : (s text : List ℕ) → Listed
 poweredUp s text = record { state = starts (netsOf s); outputs = replicate (sizesOf s .outputs) 0; printed = blank text }
+
+-- whether no row is read: the image is refused, or I is 0
+unfoldable pub readsNone : (s : List ℕ) → Bool
+readsNone s =
+    elim (checkRefusal s) [
+      | some r ↦ true
+      | none ↦ eqb (sizesOf s .inputs) 0
+    ]
 
 -- what is printed for an image s: the refusal that it draws; or with I = 0 end 0 only; or rows of I bytes of the input, one step each, and the end
 unfoldable pub listingOf : (s input text : List ℕ) → Printed

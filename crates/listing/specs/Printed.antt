@@ -31,16 +31,24 @@ nextPlace n used = cond (ltb (n - used) 8240) 0 used
 abbrev pub placeIn : Printed → ℕ
 placeIn p = nextPlace (length (p .text)) (p .used)
 
--- the text is written out
-abbrev pub writtenOut : Printed → Printed
-writtenOut p = record { text = p .text; used = 0; cycles = p .cycles; goesOn = p .goesOn }
+-- a line at the next place, behind those that are not written out yet
+abbrev pub withLine : (line : List ℕ) → Printed → Printed
+withLine line p = record { text = sets (p .text) (placeIn p) line; used = placeIn p + length line; cycles = p .cycles; goesOn = p .goesOn }
 
 -- the line of the next cycle
 unfoldable pub withCycle : (outputs : List ℕ) → Verdict → Printed → Printed
 withCycle outputs v p =
-    let line = cycleLine (p .cycles) outputs v in
-    record { text = sets (p .text) (placeIn p) line; used = placeIn p + length line; cycles = p .cycles + 1; goesOn = p .goesOn }
+    let q = withLine (cycleLine (p .cycles) outputs v) p in
+    record { text = q .text; used = q .used; cycles = q .cycles + 1; goesOn = q .goesOn }
 
--- a last line, which is written out with those before it; no line follows
+-- the text is written out
+abbrev pub writtenOut : Printed → Printed
+writtenOut p = record { text = p .text; used = 0; cycles = p .cycles; goesOn = p .goesOn }
+
+-- the text is written out, and no line follows
+abbrev pub closed : Printed → Printed
+closed p = record { text = p .text; used = 0; cycles = p .cycles; goesOn = false }
+
+-- a last line
 unfoldable pub withLast : (line : List ℕ) → Printed → Printed
-withLast line p = record { text = sets (p .text) (placeIn p) line; used = 0; cycles = p .cycles; goesOn = false }
+withLast line p = closed (withLine line p)

@@ -18,14 +18,16 @@ use tracker::power_up;
 use tracker::run;
 ghost use mathlib.Core.Path.{_≡_};
 ghost use mathlib.Core.Bool.{true, false};
+ghost use mathlib.Core.List.{[]};
 ghost use mathlib.Core.Option.{none};
 ghost use Prim.Native.Nat.{_+_, _-_, _≤_, _<_, _^_};
 ghost use lib.ListN.{length};
 ghost use Rattle.netlist.specs.Image.{sizesOf};
 ghost use Rattle.netlist.specs.Check.{checkRefusal};
 ghost use Rattle.tracker.specs.Calls.{powerUpOf};
-ghost use Rattle.listing.specs.Printed.{printed, blank};
-ghost use Rattle.listing.specs.Listing.{Listing};
+ghost use Rattle.listing_text.specs.Lines.{endLine};
+ghost use Rattle.listing.specs.Printed.{printed, blank, withLast};
+ghost use Rattle.listing.specs.Listing.{readsNone, listingOf, Listing};
 ghost use Rattle.listing.specs.Rows.{listed, withRow, rowsOf, withRows, takenOf, withRead, Took, Whole, Lists};
 
 // A proved loop has to end, and nothing says that the input does. So the reads are counted, up to a number that no listing reaches, and the
@@ -157,7 +159,8 @@ fn take_some(
     take_read(image, inputs, state, outputs, rows, got, p, text)
 }
 
-// Power-up; then rows are read and taken until the listing is closed. The buffer for rows is as long as some whole rows.
+// Power-up; then rows are read and taken until the listing is closed. The buffer for rows is as long as some whole rows. A listing that is
+// still open after the most reads counts as failed.
 fn take_input(
     image: &[u8],
     inputs: usize,
@@ -168,7 +171,7 @@ fn take_input(
 ) -> Progress
     requires { ⌜ (8240 ≤ length (now text)) × (length (now outputs) ≤ 8192) ⌝ }
     requires { ⌜ (0 < inputs) × (length (now rows) ≤ 65536) × Whole inputs (now rows) ⌝ }
-    ensures { λ r. ⌜ (r .failed ≡ false → r .open ≡ false → Lists (now (image .entry)) inputs
+    ensures { λ r. ⌜ (r .failed ≡ false → Lists (now (image .entry)) inputs
         (record { state = powerUpOf (now (image .entry)) (now (state .entry)) .state; outputs = now (outputs .entry); printed = blank (now (text .entry)) })
         (listed (now (state .exit)) (now (outputs .exit)) (now (text .exit)) r)) ⌝ }
 {
@@ -180,13 +183,19 @@ fn take_input(
         p = next;
         reads += 1;
     }
-    p
+    Progress {
+        cycles: p.cycles,
+        used: p.used,
+        open: p.open,
+        failed: p.failed | p.open,
+    }
 }
 
 // The listing of an image that is accepted.
 fn list_accepted(image: &[u8], z: Sizes, text: &mut [u8; 65536]) -> Progress
     requires { ⌜ (checkRefusal (now image) ≡ none) × (z ≡ sizesOf (now image)) ⌝ }
-    ensures { λ r. ⌜ (r .failed ≡ false → r .open ≡ false → Listing (now (image .entry)) (now (text .entry)) (printed (now (text .exit)) r)) ⌝ }
+    ensures { λ r. ⌜ (z .inputs ≡ 0 → printed (now (text .exit)) r ≡ withLast (endLine 0) (blank (now (text .entry)))) ⌝ }
+    ensures { λ r. ⌜ (r .failed ≡ false → Listing (now (image .entry)) (now (text .entry)) (printed (now (text .exit)) r)) ⌝ }
 {
     if z.inputs == 0 {
         return print_end(text, begun());
@@ -209,7 +218,8 @@ fn list_accepted(image: &[u8], z: Sizes, text: &mut [u8; 65536]) -> Progress
 
 // The listing of an image. The text is lent for the lines that are not written out yet.
 pub fn list(image: &[u8], text: &mut [u8; 65536]) -> Progress
-    ensures { λ r. ⌜ (r .failed ≡ false → r .open ≡ false → Listing (now (image .entry)) (now (text .entry)) (printed (now (text .exit)) r)) ⌝ }
+    ensures { λ r. ⌜ (readsNone (now (image .entry)) ≡ true → printed (now (text .exit)) r ≡ listingOf (now (image .entry)) [] (now (text .entry))) ⌝ }
+    ensures { λ r. ⌜ (r .failed ≡ false → Listing (now (image .entry)) (now (text .entry)) (printed (now (text .exit)) r)) ⌝ }
 {
     let o = check(image);
     match o {

@@ -11,13 +11,13 @@ ghost use Prim.Native.Nat.{_+_, _-_, _≤_, _<_, _^_};
 ghost use lib.ListN.{length};
 ghost use Rattle.tracker.specs.Answers.{verdictIn};
 ghost use Rattle.listing_text.specs.Lines.{endLine, refusedLine};
-ghost use Rattle.listing.specs.Printed.{printed, nextPlace, writtenOut, withCycle, withLast};
+ghost use Rattle.listing.specs.Printed.{printed, nextPlace, writtenOut, closed, withCycle, withLast};
 
 // The longest line: a cycle of 20 digits, 8,192 outputs, a flow at a net of 20 digits, the spaces and the end of the line.
 const LONGEST: usize = 8240;
 
 // How far the listing has come: the number of cycles that are printed, how many bytes of the buffer are not written out yet, whether the
-// listing is open, that is, its last line is not printed yet, and whether a read or a write failed: nothing is written any more then.
+// listing is open, that is, its last line is not printed yet, and whether a read or a write failed: no line follows then either.
 pub struct Progress {
     pub cycles: u64,
     pub used: usize,
@@ -90,7 +90,24 @@ pub fn print_cycle(text: &mut [u8], p: Progress, outputs: &[u8], verdict: Verdic
     }
 }
 
-// The last line, with the number of cycles. The listing is closed then.
+// Writes out the last line, which ends at a place, and what is before it. The listing is closed then.
+fn write_last(text: &[u8], p: Progress, used: usize) -> Progress
+    requires { ⌜ used ≤ length (now text) ⌝ }
+    ensures { λ r. ⌜ printed (now (text .entry)) r ≡ closed (printed (now (text .entry)) p) ⌝ }
+    ensures { λ r. ⌜ (p .failed ≡ true → r .failed ≡ true) ⌝ }
+{
+    write_out(
+        text,
+        Progress {
+            cycles: p.cycles,
+            used,
+            open: false,
+            failed: p.failed,
+        },
+    )
+}
+
+// The last line, with the number of cycles.
 pub fn print_end(text: &mut [u8], p: Progress) -> Progress
     requires { ⌜ (p .used ≤ length (now text)) × (8240 ≤ length (now text)) ⌝ }
     ensures { λ r. ⌜ printed (now (text .exit)) r ≡ withLast (endLine (p .cycles)) (printed (now (text .entry)) p) ⌝ }
@@ -98,18 +115,10 @@ pub fn print_end(text: &mut [u8], p: Progress) -> Progress
 {
     let q = make_room(text, p);
     let used = end_line(text, q.used, q.cycles);
-    write_out(
-        text,
-        Progress {
-            cycles: q.cycles,
-            used,
-            open: false,
-            failed: q.failed,
-        },
-    )
+    write_last(text, q, used)
 }
 
-// The last line of a listing that turned back. The listing is closed then.
+// The last line of a listing that turned back.
 pub fn print_refusal(text: &mut [u8], p: Progress, refusal: Refusal) -> Progress
     requires { ⌜ (p .used ≤ length (now text)) × (8240 ≤ length (now text)) ⌝ }
     ensures { λ r. ⌜ printed (now (text .exit)) r ≡ withLast (refusedLine refusal) (printed (now (text .entry)) p) ⌝ }
@@ -117,15 +126,7 @@ pub fn print_refusal(text: &mut [u8], p: Progress, refusal: Refusal) -> Progress
 {
     let q = make_room(text, p);
     let used = refused_line(text, q.used, refusal);
-    write_out(
-        text,
-        Progress {
-            cycles: q.cycles,
-            used,
-            open: false,
-            failed: q.failed,
-        },
-    )
+    write_last(text, q, used)
 }
 
 // The end of the input; where a read failed, the lines so far are written out, and no last line.

@@ -1,13 +1,15 @@
 -- `listing::cycles::list` meets its contract: an image that is accepted has sizes, and any other is refused.
 use native.Mathlib.Omega.{arith}
 use mathlib.Core.Path.{_≡_, sym, ap, _∙_}
+use mathlib.Core.List.{[]}
 use mathlib.Core.Option.{none}
 use borrow.Author.Needs.{needs}
+use Rattle.netlist.specs.declared.image.Sizes.{Sizes}
 use Rattle.netlist.specs.Check.{checkRefusal, refusalIn}
 use Rattle.netlist.proofs.Checked.{check-none}
 use Rattle.listing_text.specs.Lines.{refusedLine}
 use Rattle.listing.specs.Printed.{withLast}
-use Rattle.listing.proofs.Listings.{blank-is, listing-is, listing-refused}
+use Rattle.listing.proofs.Listings.{blank-is, listing-refused, reads-none, listing-end}
 use Rattle.listing.proofs.cycles.list.Statement.{statement}
 use Rattle.listing.proofs.cycles.list.Tie as tie
 
@@ -20,14 +22,27 @@ sizes-of-requires c κs = omega (arith, check-none _ .0 (accepted c) .exact)
 list-accepted-requires : tie.Need-list-accepted-requires
 list-accepted-requires c κs = (accepted (c .before .before), c .before .sizes-of .ensures)
 
+returns : tie.Need-returns
+returns c =
+    let told = c .before .before .before in
+    let args = told .before .before .before .before .args in
+    let did = c .list-accepted .ensures in (
+      λ h.
+          let e = reads-none (args .image .now) (args .text .now) (accepted told) h in
+          did .0 (ap (λ (z : Sizes). z .inputs) (c .before .before .sizes-of .ensures) ∙ e) ∙ listing-end (args .image .now) (args .text .now) (accepted told) e,
+      did .1,
+    )
+
 returns-2 : tie.Need-returns-2
-returns-2 c h k =
+returns-2 c =
     let first = c .before .begun .ensures in
     let told = c .before .before .before in
     let checked = told .before .before .before in
-    let image = checked .before .before in
-    listing-is (c .print-refusal .ensures .0 ∙ ap (withLast (refusedLine _)) (blank-is _ (c .before .begun .result) (first .0) (first .1) (first .2)))
-    (listing-refused (image .args .image .now) (image .args .text .now) (sym (checked .check .ensures) ∙ ap refusalIn (told .before .o .given .1)))
+    let args = checked .before .before .args in
+    let e = c .print-refusal .ensures .0
+    ∙ ap (withLast (refusedLine _)) (blank-is _ (c .before .begun .result) (first .0) (first .1) (first .2))
+    ∙ listing-refused (args .image .now) (args .text .now) (sym (checked .check .ensures) ∙ ap refusalIn (told .before .o .given .1)) in
+    (λ h. e, λ h. record { input = []; is = e })
 
 pub list-spec : {M : Type 1} → statement M
 list-spec =
@@ -40,5 +55,5 @@ list-spec =
     (λ c. search needs)
     (λ c κs. search needs)
     (λ c κs. search needs)
-    (λ c. search needs)
+    returns
     returns-2)

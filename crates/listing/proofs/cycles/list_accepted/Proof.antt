@@ -3,14 +3,14 @@ use Prim.Native.Nat.{ℕ, _*_, _/_, _≤_}
 use native.Mathlib.Omega.{arith}
 use native.Mathlib.Nat.{div-mul-le-self}
 use mathlib.Core.Path.{_≡_, sym, ap, _∙_}
-use mathlib.Core.List.{List}
+use mathlib.Core.List.{List, []}
 use lib.ListN.{length, take}
 use lib.Seq.{length-take-le}
 use borrow.Author.Needs.{needs}
 use Rattle.gates.specs.Kinds.{REG, OUT}
 use Rattle.netlist.specs.declared.image.Sizes.{Sizes}
 use Rattle.netlist.proofs.Checked.{check-none, few-of}
-use Rattle.listing.proofs.Listings.{end-blank, listing-is, listing-end, listing-rows}
+use Rattle.listing.proofs.Listings.{end-blank, listing-end, listing-rows}
 use Rattle.listing.proofs.cycles.list_accepted.Statement.{statement}
 use Rattle.listing.proofs.cycles.list_accepted.Tie as tie
 
@@ -48,19 +48,22 @@ take-input-requires c κs =
     )
 
 returns : tie.Need-returns
-returns c h k =
+returns c =
     let begun = c .before .begun .ensures in
     let none = c .before .before .before in
     let start = none .before .before .before in
-    listing-is (c .print-end .ensures .0 ∙ end-blank _ (c .before .begun .result) (begun .0) (begun .1) (begun .2))
-    (listing-end (start .args .image .now) (start .args .text .now) (start .pre .0) (sym (ap (λ (z : Sizes). z .inputs) (start .pre .1)) ∙ none .if1 .taken))
+    let line = c .print-end .ensures .0 ∙ end-blank _ (c .before .begun .result) (begun .0) (begun .1) (begun .2) in
+    let end = listing-end (start .args .image .now) (start .args .text .now) (start .pre .0) (sym (ap (λ (z : Sizes). z .inputs) (start .pre .1)) ∙ none .if1 .taken) in
+    (λ h. line, λ h. record { input = []; is = line ∙ end })
 
 returns-2 : tie.Need-returns-2
-returns-2 c h k =
+returns-2 c =
     let taken = c .before .before .before in
     let some = taken .before .before .before .before .before .before .before in
-    let start = some .before .before .before in
-    listing-rows (start .args .image .now) (start .args .text .now) (start .pre .0) _ (start .pre .1) (some .if1 .left) (length-take-le _ _ (few-registers start)) (few-outputs start) (taken .take-input .ensures h k)
+    let start = some .before .before .before in (
+      λ h. absurd (some .if1 .left h),
+      λ h. listing-rows (start .args .image .now) (start .args .text .now) (start .pre .0) _ (start .pre .1) (some .if1 .left) (length-take-le _ _ (few-registers start)) (few-outputs start) (taken .take-input .ensures h),
+    )
 
 pub list-accepted-spec : {M : Type 1} → statement M
 list-accepted-spec =

@@ -9,7 +9,7 @@ use borrow.Author.Needs.{needs}
 use borrow.Author.Tests.{ltb-true}
 use Rattle.tracker.specs.Calls.{PoweredUp}
 use Rattle.listing.specs.Rows.{listed}
-use Rattle.listing.proofs.Taking.{goes-on}
+use Rattle.listing.proofs.Taking.{goes-on, neither-of}
 use Rattle.listing.proofs.Turns.{Turns, turns-begin, turns-on, turns-end, turns-from, lists-from, same-whole}
 use Rattle.listing.proofs.cycles.take_input.Statement.{statement}
 use Rattle.listing.proofs.cycles.take_input.Tie as tie
@@ -81,18 +81,19 @@ loop-again c =
     )
 
 same-length : tie.Need-same-length Inv-loop μ-loop
-same-length c = let at = c .before .before .before in at .loop .inv .0 ∙ at .before .before .before .before .power-up .kept .1 .0
+same-length c = let at = c .before .before .before .before in at .loop .inv .0 ∙ at .before .before .before .before .power-up .kept .1 .0
 
 returns : tie.Need-returns Inv-loop μ-loop
-returns c h k =
-    let at = c .before .before .before in
+returns c h =
+    let at = c .before .before .before .before in
     let begun = at .before in
     let up = begun .before .before .before in
     let start = up .before .before .before .before .before .before .before in
     let first = begun .begun .ensures in
+    let neither = neither-of (at .loop .p .failed) (at .loop .p .open) h in
     lists-from
     (turns-from _ _ (begun .begun .result) (ap (λ (x : PoweredUp). x .state) (up .power-up .ensures)) (first .0) (first .1) (first .2))
-    (turns-end _ _ _ (at .loop .inv .6 (start .pre .1 .0) h) k)
+    (turns-end _ _ _ (at .loop .inv .6 (start .pre .1 .0) (neither .0)) (neither .1))
 
 pub take-input-spec : {M : Type 1} → statement M
 take-input-spec =
@@ -108,7 +109,7 @@ take-input-spec =
     loop-less
     loop-again
     same-length
-    (λ c. c .before .before .before .loop .inv .1)
-    (λ c. c .before .before .before .loop .inv .2)
-    (λ c. c .before .before .before .loop .inv .3)
+    (λ c. c .before .before .before .before .loop .inv .1)
+    (λ c. c .before .before .before .before .loop .inv .2)
+    (λ c. c .before .before .before .before .loop .inv .3)
     returns)

@@ -7,8 +7,8 @@ use Rattle.listing.proofs.Printing.{put-within, last-put, refused-most}
 use Rattle.listing.proofs.output.print_refusal.Statement.{statement}
 use Rattle.listing.proofs.output.print_refusal.Tie as tie
 
-write-out-requires : tie.Need-write-out-requires
-write-out-requires c κs =
+write-last-requires : tie.Need-write-last-requires
+write-last-requires c κs =
     let put = c .before .before .before in
     let room = put .before .before in
     let start = room .before .before .before in
@@ -20,9 +20,9 @@ returns c =
     let room = put .before .before in
     let start = room .before .before .before in
     let q = room .make-room .ensures in (
-      last-put (printed (start .args .text .now) (start .args .p)) _ (start .pre .1) (start .pre .0) (q .0 .0) (refused-most (start .args .refusal)) (put .refused-line .ensures) (q .0 .1) (c .write-out .ensures .0),
-      λ h. c .write-out .ensures .1 (q .1 .1 h),
+      last-put (printed (start .args .text .now) (start .args .p)) _ (start .pre .1) (start .pre .0) (q .0 .0) (refused-most (start .args .refusal)) (put .refused-line .ensures) (q .0 .1) (c .write-last .ensures .0),
+      λ h. c .write-last .ensures .1 (q .1 .1 h),
     )
 
 pub print-refusal-spec : {M : Type 1} → statement M
-print-refusal-spec = tie.close (tie.spec (λ c κs. search needs) (λ c κs. search needs) write-out-requires (λ c. search needs) returns)
+print-refusal-spec = tie.close (tie.spec (λ c κs. search needs) (λ c κs. search needs) write-last-requires (λ c. search needs) returns)
