@@ -55,7 +55,7 @@ pub record Puts (d : List ℕ) (p : ℕ) (xs d′ : List ℕ) (p′ : ℕ) : Typ
 pub puts-none : (d : List ℕ) (p : ℕ) → Puts d p [] d p
 puts-none d p = record { buffer = refl; place = omega arith }
 
-sets-append : (d : List ℕ) (p : ℕ) (xs ys : List ℕ) → sets (sets d p xs) (p + length xs) ys ≡ sets d p (xs ++ ys)
+pub sets-append : (d : List ℕ) (p : ℕ) (xs ys : List ℕ) → sets (sets d p xs) (p + length xs) ys ≡ sets d p (xs ++ ys)
 sets-append d p [] ys = rw add-zero
 sets-append d p (x ∷ xs) ys = let e : p + suc (length xs) ≡ suc p + length xs = omega arith in rw e (sets-append (set d p x) (suc p) xs ys)
 

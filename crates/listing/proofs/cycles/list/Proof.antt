@@ -1,7 +1,6 @@
 -- `listing::cycles::list` meets its contract: an image that is accepted has sizes, and any other is refused.
 use native.Mathlib.Omega.{arith}
 use mathlib.Core.Path.{_≡_, sym, ap, _∙_}
-use mathlib.Core.List.{[]}
 use mathlib.Core.Option.{none}
 use borrow.Author.Needs.{needs}
 use Rattle.netlist.specs.declared.image.Sizes.{Sizes}
@@ -9,7 +8,7 @@ use Rattle.netlist.specs.Check.{checkRefusal, refusalIn}
 use Rattle.netlist.proofs.Checked.{check-none}
 use Rattle.listing_text.specs.Lines.{refusedLine}
 use Rattle.listing.specs.Printed.{withLast}
-use Rattle.listing.proofs.Listings.{blank-is, listing-refused, reads-none, listing-end}
+use Rattle.listing.proofs.Listings.{blank-is, listing-refused, refused-only, reads-none, listing-end}
 use Rattle.listing.proofs.cycles.list.Statement.{statement}
 use Rattle.listing.proofs.cycles.list.Tie as tie
 
@@ -39,10 +38,9 @@ returns-2 c =
     let told = c .before .before .before in
     let checked = told .before .before .before in
     let args = checked .before .before .args in
-    let e = c .print-refusal .ensures .0
-    ∙ ap (withLast (refusedLine _)) (blank-is _ (c .before .begun .result) (first .0) (first .1) (first .2))
-    ∙ listing-refused (args .image .now) (args .text .now) (sym (checked .check .ensures) ∙ ap refusalIn (told .before .o .given .1)) in
-    (λ h. e, λ h. record { input = []; is = e })
+    let drawn = sym (checked .check .ensures) ∙ ap refusalIn (told .before .o .given .1) in
+    let e = c .print-refusal .ensures .0 ∙ ap (withLast (refusedLine _)) (blank-is _ (c .before .begun .result) (first .0) (first .1) (first .2)) in
+    (λ h. e ∙ listing-refused (args .image .now) (args .text .now) drawn, λ h. refused-only (args .image .now) (args .text .now) drawn e)
 
 pub list-spec : {M : Type 1} → statement M
 list-spec =

@@ -3,14 +3,14 @@ use Prim.Native.Nat.{ℕ, _*_, _/_, _≤_}
 use native.Mathlib.Omega.{arith}
 use native.Mathlib.Nat.{div-mul-le-self}
 use mathlib.Core.Path.{_≡_, sym, ap, _∙_}
-use mathlib.Core.List.{List, []}
+use mathlib.Core.List.{List}
 use lib.ListN.{length, take}
 use lib.Seq.{length-take-le}
 use borrow.Author.Needs.{needs}
 use Rattle.gates.specs.Kinds.{REG, OUT}
 use Rattle.netlist.specs.declared.image.Sizes.{Sizes}
 use Rattle.netlist.proofs.Checked.{check-none, few-of}
-use Rattle.listing.proofs.Listings.{end-blank, listing-end, listing-rows}
+use Rattle.listing.proofs.Listings.{end-blank, end-only, listing-rows}
 use Rattle.listing.proofs.cycles.list_accepted.Statement.{statement}
 use Rattle.listing.proofs.cycles.list_accepted.Tie as tie
 
@@ -53,8 +53,8 @@ returns c =
     let none = c .before .before .before in
     let start = none .before .before .before in
     let line = c .print-end .ensures .0 ∙ end-blank _ (c .before .begun .result) (begun .0) (begun .1) (begun .2) in
-    let end = listing-end (start .args .image .now) (start .args .text .now) (start .pre .0) (sym (ap (λ (z : Sizes). z .inputs) (start .pre .1)) ∙ none .if1 .taken) in
-    (λ h. line, λ h. record { input = []; is = line ∙ end })
+    let inputs = sym (ap (λ (z : Sizes). z .inputs) (start .pre .1)) ∙ none .if1 .taken in
+    (λ h. line, λ h. end-only (start .args .image .now) (start .args .text .now) (start .pre .0) inputs line)
 
 returns-2 : tie.Need-returns-2
 returns-2 c =
