@@ -1,8 +1,8 @@
 -- Turns of reading and taking: what all of them took together.
-use Prim.Native.Nat.{ℕ, zero, suc, _+_, _*_, _≤_, _<_}
+use Prim.Native.Nat.{ℕ, zero, suc, _+_, _*_, _<_}
 use native.Mathlib.Omega.{arith}
 use native.Mathlib.Nat.{suc-mul, zero-mul, add-mul}
-use mathlib.Core.Path.{_≡_, refl, sym, ap, subst, _∙_}
+use mathlib.Core.Path.{_≡_, refl, sym, ap, _∙_}
 use mathlib.Core.Bool.{Bool, true, false, cond}
 use mathlib.Core.List.{List, [], _∷_, _++_}
 use lib.Dec.{ltb}
@@ -12,7 +12,7 @@ use borrow.Author.Tests.{ltb-false, lt-ltb}
 use Rattle.listing.specs.declared.output.Progress.{Progress}
 use Rattle.listing.specs.Printed.{blank, withLast}
 use Rattle.listing.specs.Rows.{Listed, listed, withRow, withShort, rowsUpTo, rowsOf, withRows, withEnd, takenOf, withRead, Took, Whole, Lists}
-use Rattle.listing.proofs.Taking.{none-failed, passed-by, rows-first, rows-closed, rows-none, rows-then, end-open, end-closed}
+use Rattle.listing.proofs.Taking.{none-failed, rows-first, rows-closed, rows-none, rows-then, end-open, end-closed}
 
 -- whole rows before other bytes are rows of their own
 rows-append : (k i : ℕ) (xs ys : List ℕ) → 0 < i → length xs ≡ k * i → rowsOf i (xs ++ ys) ≡ rowsOf i xs ++ rowsOf i ys

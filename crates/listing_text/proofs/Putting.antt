@@ -3,13 +3,13 @@ use Prim.Native.Nat.{ℕ, suc, _+_, _≤_, _<_}
 use native.Mathlib.Omega.{arith}
 use native.Mathlib.Nat.{add-zero}
 use mathlib.Core.Path.{_≡_, refl, ap, _∙_}
-use mathlib.Core.Bool.{Bool, true, false}
+use mathlib.Core.Bool.{true, false}
 use mathlib.Core.List.{List, [], _∷_, _++_, map}
 use lib.Dec.{leb}
-use lib.ListN.{length, getD, take, set, drop, length-set, length-append}
-use lib.Seq.{sets, length-sets, sets-eq, drop-cons, drop-length, length-take-le, take-at}
+use lib.ListN.{length, getD, set, drop, length-set, length-append}
+use lib.Seq.{sets, length-sets, drop-cons, drop-length}
 use borrow.Author.Tests.{leb-true, le-leb}
-use Rattle.listing_text.specs.Lines.{digit, outputDigits, Put, put, did}
+use Rattle.listing_text.specs.Lines.{digit, outputDigits, put, did}
 
 -- BYTE BY BYTE. The bytes f x, for each x of xs, are put into a buffer from place at on, and the first i of them stand: what is left, put behind them, gives the whole
 pub record Putting (f : ℕ → ℕ) (xs begin : List ℕ) (at : ℕ) (buffer : List ℕ) (i : ℕ) : Type 0 where

@@ -1,13 +1,11 @@
 -- `listing::cycles::take_read` meets its contract: the rows that are taken are a part of what was read; then the end of the input decides.
-use Prim.Native.Nat.{ℕ, _+_, _≤_}
+use Prim.Native.Nat.{_+_, _≤_}
 use native.Mathlib.Omega.{arith}
-use mathlib.Core.Path.{_≡_, refl, sym, ap, _∙_}
-use mathlib.Core.Bool.{Bool, true, false, cond}
+use mathlib.Core.Path.{_≡_, sym, _∙_}
 use lib.ListN.{length, take}
 use lib.Seq.{length-take-le}
 use borrow.Author.Needs.{needs}
-use Rattle.listing_text.specs.Lines.{endLine}
-use Rattle.listing.specs.Printed.{Printed, printed, writtenOut, withLast}
+use Rattle.listing.specs.Printed.{withLast}
 use Rattle.listing.specs.Rows.{listed}
 use Rattle.listing.proofs.Taking.{goes-on, none-failed, passed-by, read-last, read-on}
 use Rattle.listing.proofs.cycles.take_read.Statement.{statement}

@@ -1,6 +1,6 @@
 -- `listing::cycles::take_row` meets its contract: the run's answer decides which line is printed.
 use native.Mathlib.Omega.{arith}
-use mathlib.Core.Path.{_≡_, refl, ap, _∙_}
+use mathlib.Core.Path.{ap}
 use borrow.Author.Needs.{needs}
 use Rattle.listing.specs.Printed.{Printed, withCycle, withLast}
 use Rattle.listing.proofs.Taking.{row-done, row-refused}

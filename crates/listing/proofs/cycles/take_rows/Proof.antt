@@ -1,5 +1,5 @@
 -- `listing::cycles::take_rows` meets its contract: the rows that are left, taken after those that were taken, give the whole.
-use Prim.Native.Nat.{_+_, _-_, _≤_, _<_}
+use Prim.Native.Nat.{_+_, _-_, _≤_}
 use native.Mathlib.Omega.{arith}
 use mathlib.Core.Path.{_≡_, refl, sym, ap, _∙_}
 use mathlib.Core.Bool.{true, false}

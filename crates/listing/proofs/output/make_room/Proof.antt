@@ -1,6 +1,6 @@
 -- `listing::output::make_room` meets its contract: what is left of the buffer decides whether the text is written out.
 use native.Mathlib.Omega.{arith}
-use mathlib.Core.Path.{_≡_, refl, sym, ap, _∙_}
+use mathlib.Core.Path.{refl, sym, ap, _∙_}
 use borrow.Author.Needs.{needs}
 use Rattle.listing.specs.Printed.{Printed}
 use Rattle.listing.proofs.Printing.{next-first, next-behind}

@@ -1,6 +1,4 @@
 -- `listing::output::print_cycle` meets its contract: the longest line has room at the next place.
-use native.Mathlib.Omega.{arith}
-use mathlib.Core.Path.{_≡_}
 use borrow.Author.Needs.{needs}
 use Rattle.tracker.specs.Answers.{verdictIn}
 use Rattle.listing_text.proofs.Lengths.{cycle-most}

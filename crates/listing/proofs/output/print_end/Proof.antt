@@ -1,6 +1,4 @@
 -- `listing::output::print_end` meets its contract: the line has room at the next place, and is written out.
-use Prim.Native.Nat.{_≤_}
-use mathlib.Core.Path.{_≡_, refl}
 use borrow.Author.Needs.{needs}
 use Rattle.listing.specs.Printed.{printed}
 use Rattle.listing.proofs.Printing.{put-within, last-put, end-most}

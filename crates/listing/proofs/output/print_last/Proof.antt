@@ -1,6 +1,5 @@
 -- `listing::output::print_last` meets its contract: by whether the read failed.
-use mathlib.Core.Path.{_≡_, refl, ap, _∙_}
-use mathlib.Core.Bool.{cond}
+use mathlib.Core.Path.{refl, ap}
 use borrow.Author.Needs.{needs}
 use Rattle.listing.specs.Printed.{Printed, withLast}
 use Rattle.listing.proofs.output.print_last.Statement.{statement}
