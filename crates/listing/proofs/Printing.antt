@@ -25,7 +25,7 @@ unfolding nextPlace
 next-behind n used h = rw (le-ltb (n - used) 8240 h)
 
 -- so the longest line has room
-pub next-room : (n used : ℕ) → 8240 ≤ n → used ≤ n → nextPlace n used + 8240 ≤ n
+next-room : (n used : ℕ) → 8240 ≤ n → used ≤ n → nextPlace n used + 8240 ≤ n
 unfolding nextPlace
 next-room n used h k = by (ltb (n - used) 8240) refl
   where

@@ -101,7 +101,7 @@ module _ (s : List ℕ) (i : ℕ) (some : 0 < i) where
   rows-then row rows l h = chosen (l .printed .goesOn) _ l h
 
   -- a whole row
-  pub rows-whole : (bytes : List ℕ) (l : Listed) → l .printed .goesOn ≡ true → i ≤ length bytes
+  rows-whole : (bytes : List ℕ) (l : Listed) → l .printed .goesOn ≡ true → i ≤ length bytes
       → withRows s i (rowsOf i bytes) l ≡ withRows s i (rowsOf i (drop i bytes)) (withRow s (take i bytes) l)
   rows-whole bytes l h k =
       let n : length (take i bytes) ≡ i = length-take-le i bytes k in

@@ -2,3 +2,4 @@
 pub mod Printed
 pub mod Rows
 pub mod Listing
+pub mod Counter
