@@ -1,2 +1,5 @@
--- What is promised of the text that the program gathers.
+-- Terms of the contracts between the functions of the program.
 pub mod Printed
+pub mod Rows
+pub mod Listing
+pub mod Counter

@@ -1,6 +1,8 @@
 // Reading: the image, and the rows. Both may come in pieces.
-ghost use Prim.Native.Nat.{_+_, _≤_};
-ghost use lib.ListN.{length};
+ghost use mathlib.Core.Path.{_≡_};
+ghost use mathlib.Core.Bool.{true};
+ghost use Prim.Native.Nat.{_+_, _≤_, _<_};
+ghost use lib.ListN.{length, take};
 ghost use Rattle.io.specs.Counts.{Counts};
 
 // The largest image has 8 + 7 × 8,192 bytes. One byte more is read, so that a longer file is not taken for an image.
@@ -12,10 +14,11 @@ pub struct Filled {
     pub failed: bool,
 }
 
-// One read behind the bytes that are there: how many more came.
+// One read behind the bytes that are there, which stay: how many more came.
 fn read_more(fd: i32, buffer: &mut [u8], from: usize) -> Filled
     requires { ⌜ from ≤ length (now buffer) ⌝ }
     ensures { λ r. ⌜ from + r .bytes ≤ length (now (buffer .exit)) ⌝ }
+    ensures { λ r. ⌜ take from (now (buffer .exit)) ≡ take from (now (buffer .entry)) ⌝ }
 {
     let got = libc::read(fd, &mut buffer[from..]);
     let bytes = io::count(got, &buffer[from..]);
@@ -25,9 +28,10 @@ fn read_more(fd: i32, buffer: &mut [u8], from: usize) -> Filled
     }
 }
 
-// Reads until the buffer is full, the input ends or a read fails.
+// Reads until the buffer is full, the input ends or a read fails, which it does only where bytes are missing.
 pub fn fill(fd: i32, buffer: &mut [u8]) -> Filled
     ensures { λ r. ⌜ Counts (r .bytes) (now (buffer .exit)) ⌝ }
+    ensures { λ r. ⌜ (r .failed ≡ true → r .bytes < length (now (buffer .exit))) ⌝ }
 {
     let mut bytes: usize = 0;
     let mut failed = false;

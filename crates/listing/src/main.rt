@@ -9,5 +9,6 @@ use input::read_image;
 fn main() {
     let mut space = [0u8; MOST_IMAGE];
     let n = read_image(&mut space);
-    cycles::list(&space[..n]);
+    let mut text = [0u8; 65536];
+    cycles::list(&space[..n], &mut text);
 }

@@ -6,44 +6,65 @@ use listing_text::refused_line;
 use netlist::Refusal;
 use tracker::Verdict;
 ghost use mathlib.Core.Path.{_≡_};
-ghost use Prim.Native.Nat.{_+_, _≤_, _<_, _^_};
-ghost use lib.ListN.{length, take};
+ghost use mathlib.Core.Bool.{true, false, cond};
+ghost use Prim.Native.Nat.{_+_, _-_, _≤_, _<_, _^_};
+ghost use lib.ListN.{length};
 ghost use Rattle.tracker.specs.Answers.{verdictIn};
-ghost use Rattle.listing_text.specs.Lines.{cycleLine};
-ghost use Rattle.listing.specs.Printed.{EndsWith};
+ghost use Rattle.listing_text.specs.Lines.{endLine, refusedLine};
+ghost use Rattle.listing.specs.Printed.{printed, nextPlace, writtenOut, closed, withCycle, withLast};
 
 // The longest line: a cycle of 20 digits, 8,192 outputs, a flow at a net of 20 digits, the spaces and the end of the line.
 const LONGEST: usize = 8240;
 
-// How far the listing has come: the number of cycles that are printed, how many bytes of the buffer are not written out yet, and whether the
-// listing is open: nothing is printed any more once it is not.
+// How far the listing has come: the number of cycles that are printed, how many bytes of the buffer are not written out yet, whether the
+// listing is open, that is, its last line is not printed yet, and whether a read or a write failed: no line follows then either.
 pub struct Progress {
     pub cycles: u64,
     pub used: usize,
     pub open: bool,
+    pub failed: bool,
 }
 
-// Writes out what is in the buffer. A write that fails ends the listing.
+// Nothing is printed yet.
+pub fn begun() -> Progress
+    ensures { λ r. ⌜ (r .cycles ≡ 0) × (r .used ≡ 0) × (r .open ≡ true) × (r .failed ≡ false) ⌝ }
+{
+    Progress {
+        cycles: 0,
+        used: 0,
+        open: true,
+        failed: false,
+    }
+}
+
+// Writes out what is in the buffer, unless a write failed before.
 fn write_out(text: &[u8], p: Progress) -> Progress
     requires { ⌜ p .used ≤ length (now text) ⌝ }
-    ensures { λ r. ⌜ (r .used ≡ 0) × (r .cycles ≡ p .cycles) ⌝ }
+    ensures { λ r. ⌜ printed (now (text .entry)) r ≡ writtenOut (printed (now (text .entry)) p) ⌝ }
+    ensures { λ r. ⌜ (p .failed ≡ true → r .failed ≡ true) ⌝ }
 {
-    let n = p.used;
-    let written = io::write_all(STDOUT_FILENO, &text[..n]);
-    if !written {
-        os::fail(b"standard output");
+    let mut failed = p.failed;
+    if !failed {
+        let n = p.used;
+        let written = io::write_all(STDOUT_FILENO, &text[..n]);
+        if !written {
+            os::fail(b"standard output");
+            failed = true;
+        }
     }
     Progress {
         cycles: p.cycles,
         used: 0,
-        open: p.open & written,
+        open: p.open,
+        failed,
     }
 }
 
 // Writes out what is in the buffer where the next line might not fit behind it.
 fn make_room(text: &[u8], p: Progress) -> Progress
-    requires { ⌜ (p .used ≤ length (now text)) × (8240 ≤ length (now text)) ⌝ }
-    ensures { λ r. ⌜ (r .used + 8240 ≤ length (now (text .entry))) × (r .cycles ≡ p .cycles) ⌝ }
+    requires { ⌜ p .used ≤ length (now text) ⌝ }
+    ensures { λ r. ⌜ (r .used ≡ nextPlace (length (now (text .entry))) (p .used)) × (r .cycles ≡ p .cycles) × (r .open ≡ p .open) ⌝ }
+    ensures { λ r. ⌜ (8240 ≤ length (now (text .entry)) - p .used → r .failed ≡ p .failed) × (p .failed ≡ true → r .failed ≡ true) ⌝ }
 {
     if text.len() - p.used < LONGEST {
         write_out(text, p)
@@ -52,11 +73,12 @@ fn make_room(text: &[u8], p: Progress) -> Progress
     }
 }
 
-// The line of the next cycle: the text that is gathered ends with it.
+// The line of the next cycle, behind those that are not written out yet.
 pub fn print_cycle(text: &mut [u8], p: Progress, outputs: &[u8], verdict: Verdict) -> Progress
     requires { ⌜ (p .used ≤ length (now text)) × (8240 ≤ length (now text)) × (length (now outputs) ≤ 8192) × (p .cycles + 1 < 2 ^ 64) ⌝ }
-    ensures { λ r. ⌜ EndsWith (cycleLine (p .cycles) (now (outputs .entry)) (verdictIn verdict)) (take (r .used) (now (text .exit))) ⌝ }
-    ensures { λ r. ⌜ (r .used ≤ length (now (text .exit))) × (r .cycles ≡ p .cycles + 1) ⌝ }
+    ensures { λ r. ⌜ printed (now (text .exit)) r ≡ withCycle (now (outputs .entry)) (verdictIn verdict) (printed (now (text .entry)) p) ⌝ }
+    ensures { λ r. ⌜ (8240 ≤ length (now (text .entry)) - p .used → r .failed ≡ p .failed) × (p .failed ≡ true → r .failed ≡ true) ⌝ }
+    ensures { λ r. ⌜ r .used ≤ length (now (text .exit)) ⌝ }
 {
     let q = make_room(text, p);
     let used = cycle_line(text, q.used, q.cycles, outputs, verdict);
@@ -64,64 +86,65 @@ pub fn print_cycle(text: &mut [u8], p: Progress, outputs: &[u8], verdict: Verdic
         cycles: q.cycles + 1,
         used,
         open: q.open,
+        failed: q.failed,
     }
 }
 
-// The last line, with the number of cycles. The listing is closed then.
+// Writes out the last line, which ends at a place, and what is before it. The listing is closed then.
+fn write_last(text: &[u8], p: Progress, used: usize) -> Progress
+    requires { ⌜ used ≤ length (now text) ⌝ }
+    ensures { λ r. ⌜ printed (now (text .entry)) r ≡ closed (printed (now (text .entry)) p) ⌝ }
+    ensures { λ r. ⌜ (p .failed ≡ true → r .failed ≡ true) ⌝ }
+{
+    write_out(
+        text,
+        Progress {
+            cycles: p.cycles,
+            used,
+            open: false,
+            failed: p.failed,
+        },
+    )
+}
+
+// The last line, with the number of cycles.
 pub fn print_end(text: &mut [u8], p: Progress) -> Progress
     requires { ⌜ (p .used ≤ length (now text)) × (8240 ≤ length (now text)) ⌝ }
-    ensures { λ r. ⌜ (r .used ≤ length (now (text .exit))) × (r .cycles ≡ p .cycles) ⌝ }
+    ensures { λ r. ⌜ printed (now (text .exit)) r ≡ withLast (endLine (p .cycles)) (printed (now (text .entry)) p) ⌝ }
+    ensures { λ r. ⌜ (p .failed ≡ true → r .failed ≡ true) ⌝ }
 {
     let q = make_room(text, p);
-    if q.open {
-        let used = end_line(text, q.used, q.cycles);
-        return write_out(
-            text,
-            Progress {
-                cycles: q.cycles,
-                used,
-                open: false,
-            },
-        );
-    }
-    q
+    let used = end_line(text, q.used, q.cycles);
+    write_last(text, q, used)
 }
 
-// The last line of a listing that turned back. The listing is closed then.
+// The last line of a listing that turned back.
 pub fn print_refusal(text: &mut [u8], p: Progress, refusal: Refusal) -> Progress
     requires { ⌜ (p .used ≤ length (now text)) × (8240 ≤ length (now text)) ⌝ }
-    ensures { λ r. ⌜ (r .used ≤ length (now (text .exit))) × (r .cycles ≡ p .cycles) ⌝ }
+    ensures { λ r. ⌜ printed (now (text .exit)) r ≡ withLast (refusedLine refusal) (printed (now (text .entry)) p) ⌝ }
+    ensures { λ r. ⌜ (p .failed ≡ true → r .failed ≡ true) ⌝ }
 {
     let q = make_room(text, p);
-    if q.open {
-        let used = refused_line(text, q.used, refusal);
-        return write_out(
-            text,
-            Progress {
-                cycles: q.cycles,
-                used,
-                open: false,
-            },
-        );
-    }
-    q
+    let used = refused_line(text, q.used, refusal);
+    write_last(text, q, used)
 }
 
 // The end of the input; where a read failed, the lines so far are written out, and no last line.
 pub fn print_last(text: &mut [u8], p: Progress, failed: bool) -> Progress
     requires { ⌜ (p .used ≤ length (now text)) × (8240 ≤ length (now text)) ⌝ }
-    ensures { λ r. ⌜ (r .used ≤ length (now (text .exit))) × (r .cycles ≡ p .cycles) ⌝ }
+    ensures { λ r. ⌜ printed (now (text .exit)) r
+        ≡ cond failed (writtenOut (printed (now (text .entry)) p)) (withLast (endLine (p .cycles)) (printed (now (text .entry)) p)) ⌝ }
+    ensures { λ r. ⌜ (failed ≡ true → r .failed ≡ true) × (p .failed ≡ true → r .failed ≡ true) × (r .used ≡ 0) × (r .cycles ≡ p .cycles) ⌝ }
 {
     if failed {
         os::fail(b"standard input");
-        return write_out(
-            text,
-            Progress {
-                cycles: p.cycles,
-                used: p.used,
-                open: false,
-            },
-        );
+        let q = write_out(text, p);
+        return Progress {
+            cycles: q.cycles,
+            used: q.used,
+            open: q.open,
+            failed: true,
+        };
     }
     print_end(text, p)
 }

@@ -3,13 +3,13 @@ use Prim.Native.Nat.{ℕ, suc, _+_, _≤_, _<_}
 use native.Mathlib.Omega.{arith}
 use native.Mathlib.Nat.{add-zero}
 use mathlib.Core.Path.{_≡_, refl, ap, _∙_}
-use mathlib.Core.Bool.{Bool, true, false}
+use mathlib.Core.Bool.{true, false}
 use mathlib.Core.List.{List, [], _∷_, _++_, map}
 use lib.Dec.{leb}
-use lib.ListN.{length, getD, take, set, drop, length-set, length-append}
-use lib.Seq.{sets, length-sets, sets-eq, drop-cons, drop-length, length-take-le, take-at}
+use lib.ListN.{length, getD, set, drop, length-set, length-append}
+use lib.Seq.{sets, length-sets, drop-cons, drop-length}
 use borrow.Author.Tests.{leb-true, le-leb}
-use Rattle.listing_text.specs.Lines.{digit, outputDigits, Put, put, did}
+use Rattle.listing_text.specs.Lines.{digit, outputDigits, put, did}
 
 -- BYTE BY BYTE. The bytes f x, for each x of xs, are put into a buffer from place at on, and the first i of them stand: what is left, put behind them, gives the whole
 pub record Putting (f : ℕ → ℕ) (xs begin : List ℕ) (at : ℕ) (buffer : List ℕ) (i : ℕ) : Type 0 where
@@ -55,7 +55,7 @@ pub record Puts (d : List ℕ) (p : ℕ) (xs d′ : List ℕ) (p′ : ℕ) : Typ
 pub puts-none : (d : List ℕ) (p : ℕ) → Puts d p [] d p
 puts-none d p = record { buffer = refl; place = omega arith }
 
-sets-append : (d : List ℕ) (p : ℕ) (xs ys : List ℕ) → sets (sets d p xs) (p + length xs) ys ≡ sets d p (xs ++ ys)
+pub sets-append : (d : List ℕ) (p : ℕ) (xs ys : List ℕ) → sets (sets d p xs) (p + length xs) ys ≡ sets d p (xs ++ ys)
 sets-append d p [] ys = rw add-zero
 sets-append d p (x ∷ xs) ys = let e : p + suc (length xs) ≡ suc p + length xs = omega arith in rw e (sets-append (set d p x) (suc p) xs ys)
 
@@ -94,33 +94,10 @@ module _ (d : List ℕ) (p : ℕ) (line : List ℕ) {n : ℕ} (counted : n ≡ l
   unfolding put
   line-left h = rw (rw counted at h)
 
--- in either case the next place is within the buffer, if the place was
-pub place-within : (d : List ℕ) (p : ℕ) (line : List ℕ) {d′ : List ℕ} {p′ : ℕ} → did d′ p′ ≡ put d p line → p ≤ length d → p′ ≤ length d′
+-- a line that fits is put
+pub put-fits : (d : List ℕ) (p : ℕ) (line : List ℕ) → p + length line ≤ length d → put d p line ≡ did (sets d p line) (p + length line)
 unfolding put
-place-within d p line {d′} {p′} e h = by (leb (p + length line) (length d)) refl
-  where
-    by : (b : Bool) → leb (p + length line) (length d) ≡ b → p′ ≤ length d′
-    by true t =
-        let f : did d′ p′ ≡ did (sets d p line) (p + length line) = e ∙ rw t in
-        let l = leb-true (p + length line) (length d) t in
-        omega (arith, l, ap (λ (x : Put). x .place) f, ap (λ (x : Put). length (x .buffer)) f, length-sets d p line)
-    by false t =
-        let f : did d′ p′ ≡ did d p = e ∙ rw t in
-        omega (arith, ap (λ (x : Put). x .place) f, ap (λ (x : Put). length (x .buffer)) f)
-
--- a line that fits is put, and stands behind what was there
-module _ (d : List ℕ) (p : ℕ) (line : List ℕ) (h : p + length line ≤ length d) {d′ : List ℕ} {p′ : ℕ} (e : did d′ p′ ≡ put d p line) where
-  put-is : did d′ p′ ≡ did (sets d p line) (p + length line)
-  unfolding put
-  put-is = e ∙ rw (le-leb (p + length line) (length d) h)
-
-  put-place : p′ ≡ p + length line
-  put-place = ap (λ (x : Put). x .place) put-is
-
-  pub put-text : take p′ d′ ≡ take p d ++ line
-  put-text =
-      let size : length (take p d ++ line) ≡ p + length line = rw (length-append, length-take-le p d (omega arith)) in
-      rw (put-place, ap (λ (x : Put). x .buffer) put-is, sets-eq line d p h) (take-at (take p d ++ line) (drop (p + length line) d) (p + length line) size)
+put-fits d p line h = rw (le-leb (p + length line) (length d) h)
 
 -- OUTPUTS. No output is a -, and others are their digits
 pub no-outputs : (xs : List ℕ) → length xs ≡ 0 → outputDigits xs ≡ 45 ∷ []

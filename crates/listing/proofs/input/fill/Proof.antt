@@ -2,6 +2,7 @@
 use Prim.Native.Nat.{ℕ, _+_, _-_, _≤_}
 use native.Mathlib.Omega.{arith}
 use mathlib.Core.Path.{_≡_, refl, sym, _∙_}
+use mathlib.Core.Bool.{false}
 use mathlib.Core.List.{List}
 use lib.ListN.{length}
 use lib.Seq.{length-take-le}
@@ -10,7 +11,7 @@ use Rattle.listing.proofs.input.fill.Statement.{statement}
 use Rattle.listing.proofs.input.fill.Tie as tie
 
 abbrev Inv-loop : tie.InvT-loop
-Inv-loop fd buffer₀ bytes₀ failed₀ buffer bytes failed = (length buffer ≡ length buffer₀) × (bytes ≤ length buffer₀)
+Inv-loop fd buffer₀ bytes₀ failed₀ buffer bytes failed = (length buffer ≡ length buffer₀) × (bytes ≤ length buffer₀) × (failed ≡ false)
 
 abbrev μ-loop : tie.MeasureT-loop
 μ-loop fd buffer₀ bytes₀ failed₀ buffer bytes failed = length buffer₀ - bytes
@@ -42,15 +43,15 @@ loop-less c =
     omega (arith, some, within more)
 
 loop-again : tie.Need-loop-again Inv-loop μ-loop
-loop-again c = let more = c .before .before .before .before .before in (long more, within more)
+loop-again c = let more = c .before .before .before .before .before in (long more, within more, more .before .before .before .loop .inv .2)
 
 returns : tie.Need-returns Inv-loop μ-loop
-returns c = let inv = c .before .loop .inv in counts _ _ (omega (arith, inv .0, inv .1))
+returns c = let inv = c .before .loop .inv in (counts _ _ (omega (arith, inv .0, inv .1)), λ h. let z : _≡_ {A = ℕ} 0 1 = cc (h, inv .2) in omega arith)
 
 returns-2 : tie.Need-returns-2 Inv-loop μ-loop
 returns-2 c =
     let more = c .before .before .before .before in
-    counts _ _ (omega (arith, long more, more .before .before .before .loop .inv .1))
+    (counts _ _ (omega (arith, long more, more .before .before .before .loop .inv .1)), λ h. omega (arith, long more, more .before .before .loop-test .taken))
 
 pub fill-spec : {M : Type 1} → statement M
 fill-spec =
@@ -58,7 +59,7 @@ fill-spec =
     (tie.spec
     Inv-loop
     μ-loop
-    (λ c. (refl, omega arith))
+    (λ c. (refl, omega arith, refl))
     read-more-requires
     add-bytes
     loop-less

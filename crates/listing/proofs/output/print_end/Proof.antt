@@ -1,24 +1,26 @@
--- `listing::output::print_end` is safe: the line that is put ends within the buffer.
-use native.Mathlib.Omega.{arith}
+-- `listing::output::print_end` meets its contract: the line has room at the next place, and is written out.
 use borrow.Author.Needs.{needs}
-use Rattle.listing_text.proofs.Putting.{place-within}
+use Rattle.listing.specs.Printed.{printed}
+use Rattle.listing.proofs.Printing.{put-within, last-put, end-most}
 use Rattle.listing.proofs.output.print_end.Statement.{statement}
 use Rattle.listing.proofs.output.print_end.Tie as tie
 
-write-out-requires : tie.Need-write-out-requires
-write-out-requires c κs =
+write-last-requires : tie.Need-write-last-requires
+write-last-requires c κs =
     let put = c .before .before .before in
-    let room = put .before .before .before in
-    place-within _ _ _ (put .end-line .ensures) (omega (arith, room .make-room .ensures .0))
+    let room = put .before .before in
+    let start = room .before .before .before in
+    put-within (printed (start .args .text .now) (start .args .p)) _ (start .pre .1) (start .pre .0) (room .make-room .ensures .0 .0) (end-most (room .make-room .result .cycles)) (put .end-line .ensures)
+
+returns : tie.Need-returns
+returns c =
+    let put = c .before .before .before .before in
+    let room = put .before .before in
+    let start = room .before .before .before in
+    let q = room .make-room .ensures in (
+      rw (q .0 .1) at (last-put (printed (start .args .text .now) (start .args .p)) _ (start .pre .1) (start .pre .0) (q .0 .0) (end-most (room .make-room .result .cycles)) (put .end-line .ensures) (q .0 .1) (c .write-last .ensures .0)),
+      λ h. c .write-last .ensures .1 (q .1 .1 h),
+    )
 
 pub print-end-spec : {M : Type 1} → statement M
-print-end-spec =
-    tie.close
-    (tie.spec
-    (λ c κs. search needs)
-    (λ c κs. search needs)
-    write-out-requires
-    (λ c. search needs)
-    (λ c. search needs)
-    (λ c. search needs)
-    (λ c. search needs))
+print-end-spec = tie.close (tie.spec (λ c κs. search needs) (λ c κs. search needs) write-last-requires (λ c. search needs) returns)

@@ -1,0 +1,28 @@
+-- Document 01's example of a listing holds, by computation.
+use mathlib.Core.Path.{refl}
+use Rattle.gates.specs.Rules.{value, mark, byte, andMark, notByte, andByte, gateByte}
+use Rattle.netlist.specs.Image.{sizesOf, netAt, netsFrom, netsOf, count}
+use Rattle.netlist.specs.Check.{netRefusal, netsRefusal, checkRefusal, badByte, badLength}
+use Rattle.tracker.specs.Cycle.{pinByte, netByte, past, walk, bytesOf, verdictFrom, outputsFrom, registers, clocked, cycleOf, cyclesOf, outputsOf, stateAfter, firstOf, firstFlow}
+use Rattle.tracker.specs.Calls.{start, starts, asRun, runRefusal, runOf}
+use Rattle.listing_text.specs.Lines.{digitsUpTo, decimal, outputDigits, cycleLine, endLine}
+use Rattle.listing.specs.Rows.{rowsUpTo}
+use Rattle.listing.specs.Listing.{linesOf, listingText}
+use Rattle.listing.specs.Counter.{counter, CounterListing}
+
+-- what is computed with
+checking : Unit {0}
+unfolding sizesOf netAt netsFrom netsOf count netRefusal netsRefusal checkRefusal badByte badLength runRefusal
+checking = tt
+
+running : Unit {0}
+unfolding value mark byte andMark notByte andByte gateByte pinByte netByte past walk bytesOf verdictFrom outputsFrom registers clocked cycleOf cyclesOf outputsOf stateAfter firstOf firstFlow start starts asRun runOf
+running = tt
+
+listing : Unit {0}
+unfolding digitsUpTo decimal outputDigits cycleLine endLine rowsUpTo linesOf listingText
+listing = tt
+
+pub counter-listing : CounterListing
+unfolding checking running listing counter
+counter-listing = refl

@@ -1,0 +1,88 @@
+-- The three ways in which a listing goes.
+use Prim.Native.Nat.{ℕ, zero, suc, _≤_}
+use native.Mathlib.Omega.{arith}
+use mathlib.Core.Path.{_≡_, refl, ap, _∙_}
+use mathlib.Core.Bool.{true}
+use mathlib.Core.List.{List, [], _∷_}
+use mathlib.Core.Option.{none, some}
+use lib.ListN.{length, take, replicate}
+use borrow.Author.Tests.{eqb-true, eq-eqb, ne-eqb}
+use Rattle.netlist.specs.declared.image.Sizes.{Sizes}
+use Rattle.netlist.specs.Image.{sizesOf, netsOf}
+use Rattle.netlist.specs.declared.answer.Refusal.{Refusal}
+use Rattle.netlist.specs.Check.{checkRefusal}
+use Rattle.netlist.proofs.Checked.{check-none}
+use Rattle.tracker.specs.Calls.{PoweredUp, powerUpOf, starts}
+use Rattle.tracker.proofs.Calls.{powered-up}
+use Rattle.listing_text.specs.Lines.{endLine, refusedLine}
+use Rattle.listing.specs.declared.output.Progress.{Progress}
+use Rattle.listing.specs.Printed.{Printed, printed, blank, withLast}
+use Rattle.listing.specs.Rows.{Listed, rowsOf, withRows, withEnd, Lists}
+use Rattle.listing.specs.Listing.{poweredUp, readsNone, listingOf, linesOf, listingText, Listing}
+use Rattle.listing.proofs.AsText.{last-there, lines-text}
+
+-- nothing is printed yet
+pub blank-is : (text : List ℕ) (p : Progress) → p .cycles ≡ 0 → p .used ≡ 0 → p .open ≡ true → printed text p ≡ blank text
+blank-is text p n u o = cc
+
+-- the first bytes of a buffer of zeros
+zeros-part : (m n : ℕ) → m ≤ n → take {A = ℕ} m (replicate n 0) ≡ replicate m 0
+zeros-part zero n h = refl
+zeros-part (suc m) zero h = absurd (omega arith)
+zeros-part (suc m) (suc n) h = ap (λ (l : List ℕ). 0 ∷ l) (zeros-part m n (omega arith))
+
+-- end, with no cycle
+pub end-blank : (text : List ℕ) (p : Progress) → p .cycles ≡ 0 → p .used ≡ 0 → p .open ≡ true → withLast (endLine (p .cycles)) (printed text p) ≡ withLast (endLine 0) (blank text)
+end-blank text p n u o = cc
+
+module _ (s text : List ℕ) where
+  -- a listing of one line
+  one-line : {line : List ℕ} {p : Printed} → withLast line (blank text) ≡ listingOf s [] text → listingText s [] ≡ line → p ≡ withLast line (blank text) → Listing s text p
+  one-line {line} {p} e t f =
+      record {
+        input = [];
+        is = f ∙ e;
+        fits = λ h. rw t (ap (λ (x : Printed). x .text) f ∙ last-there line text 0 0 (let k = rw t at h in omega arith));
+      }
+
+  pub listing-refused : {r : Refusal} → checkRefusal s ≡ some r → withLast (refusedLine r) (blank text) ≡ listingOf s [] text
+  unfolding listingOf
+  listing-refused h = rw (h, listingOf)
+
+  pub refused-only : {r : Refusal} {p : Printed} → checkRefusal s ≡ some r → p ≡ withLast (refusedLine r) (blank text) → Listing s text p
+  unfolding listingText
+  refused-only h f = one-line (listing-refused h) (rw (h, listingText)) f
+
+  module _ (accepted : checkRefusal s ≡ none) where
+    pub reads-none : readsNone s ≡ true → sizesOf s .inputs ≡ 0
+    unfolding readsNone
+    reads-none h = eqb-true (sizesOf s .inputs) 0 (rw (accepted, readsNone) at h)
+
+    pub listing-end : sizesOf s .inputs ≡ 0 → withLast (endLine 0) (blank text) ≡ listingOf s [] text
+    unfolding listingOf
+    listing-end e = rw (accepted, eq-eqb (sizesOf s .inputs) 0 e, listingOf)
+
+    pub end-only : {p : Printed} → sizesOf s .inputs ≡ 0 → p ≡ withLast (endLine 0) (blank text) → Listing s text p
+    unfolding listingText
+    end-only e f = one-line (listing-end e) (rw (accepted, eq-eqb (sizesOf s .inputs) 0 e, listingText)) f
+
+    pub listing-rows : {z : Sizes} {n : ℕ} {after : Listed} (st : List ℕ) → z ≡ sizesOf s → (z .inputs ≡ 0 → ⊥) → length st ≡ z .registers → z .outputs ≤ n
+        → Lists s (z .inputs) (record { state = powerUpOf s st .state; outputs = take (z .outputs) (replicate n 0); printed = blank text }) after
+        → Listing s text (after .printed)
+    unfolding listingOf listingText
+    listing-rows {z} {n} {after} st e i l o lists =
+        let up : powerUpOf s st .state ≡ poweredUp s text .state = ap (λ (p : PoweredUp). p .state) (powered-up s st (check-none s .0 accepted) (rw e at l)) in
+        let outs = zeros-part (z .outputs) n o in
+        let j : sizesOf s .inputs ≡ 0 → ⊥ = rw e at i in
+        let rows = rowsOf (sizesOf s .inputs) (lists .input) in
+        let f : after ≡ withEnd (withRows s (sizesOf s .inputs) rows (poweredUp s text)) = rw (up, outs, e) at (lists .is) in
+        let t : listingText s (lists .input) ≡ linesOf s (sizesOf s .inputs) 0 (starts (netsOf s)) (replicate (sizesOf s .outputs) 0) rows =
+        rw (accepted, ne-eqb (sizesOf s .inputs) 0 j, listingText) in
+        record {
+          input = lists .input;
+          is = ap (λ (x : Listed). x .printed) f ∙ rw (accepted, ne-eqb (sizesOf s .inputs) 0 j, listingOf);
+          fits = λ h.
+              rw t
+              (ap (λ (x : Listed). x .printed .text) f
+              ∙ lines-text s (sizesOf s .inputs) (omega (arith, j)) rows (starts (netsOf s)) (replicate (sizesOf s .outputs) 0) text 0 0 (let k = rw t at h in omega arith));
+        }
