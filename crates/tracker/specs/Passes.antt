@@ -4,21 +4,14 @@ use mathlib.Core.Path.{_≡_}
 use mathlib.Core.List.{List}
 use mathlib.Core.Option.{none}
 use lib.ListN.{length, getD, take, drop}
-use Rattle.gates.specs.Kinds.{INPUT, REG, OUT}
-use Rattle.netlist.specs.Image.{sizesOf, kindAt, netAt}
+use Rattle.gates.specs.Kinds.{INPUT, REG}
+use Rattle.netlist.specs.Image.{kindAt, netAt}
 use Rattle.netlist.specs.Check.{netRefusal}
-use Rattle.tracker.specs.declared.lowest.Bounds.{Bounds}
 use Rattle.tracker.specs.Cycle.{Walk}
 
 -- no net below `from` is of kind k
 abbrev pub NoneBelow : (k : ℕ) (s : List ℕ) (from : ℕ) → Type 0
 NoneBelow k s from = (i : ℕ) → i < from → kindAt s i ≡ k → ⊥
-
--- what a run finds out once about an image: N, and where its passes over OUTs and over REGs start
-pub record Bounded (s : List ℕ) (b : Bounds) : Type 0 where
-  pub nets : b .nets ≡ sizesOf s .nets
-  pub outs : (b .outs ≤ b .nets) × NoneBelow OUT s (b .outs)
-  pub regs : (b .regs ≤ b .nets) × NoneBelow REG s (b .regs)
 
 -- a cycle's walk at net i: the bytes of the nets below it, and the row and state bytes that no net has taken yet
 abbrev pub walkAt : (row state nets : List ℕ) (i inputs registers : ℕ) → Walk

@@ -1,11 +1,12 @@
 // Cycles of a netlist: power-up, a step, and a run.
 mod answer;
-mod lowest;
+mod listed;
+mod lists;
 mod nets;
-mod outputs;
 mod refusing;
 mod registers;
 mod running;
+mod settling;
 mod starting;
 mod stepping;
 mod verdict;

@@ -1,7 +1,5 @@
-// The verdict of a cycle, and the first flow of a run.
-use crate::answer::FirstFlow;
+// The verdict of a cycle.
 use crate::answer::Verdict;
-use crate::lowest::Bounds;
 use gates::OUT;
 use gates::marked;
 use netlist::kind_of;
@@ -16,9 +14,9 @@ ghost use Rattle.gates.specs.Kinds.{OUT};
 ghost use Rattle.gates.specs.Rules.{mark};
 ghost use Rattle.netlist.specs.Image.{sizesOf, kindAt, operandAt, netsOf};
 ghost use Rattle.netlist.specs.Check.{checkRefusal};
-ghost use Rattle.tracker.specs.Answers.{verdictIn, firstFlowIn};
-ghost use Rattle.tracker.specs.Cycle.{verdictFrom, firstOf};
-ghost use Rattle.tracker.specs.Passes.{NoneBelow, Bounded};
+ghost use Rattle.tracker.specs.Answers.{verdictIn};
+ghost use Rattle.tracker.specs.Cycle.{verdictFrom};
+ghost use Rattle.tracker.specs.Passes.{NoneBelow};
 
 // Whether net i is a protected OUT with mark 1.
 fn flows(image: &[u8], i: usize, nets: &[u8]) -> bool
@@ -47,33 +45,5 @@ pub fn verdict_of(image: &[u8], n: usize, from: usize, nets: &[u8]) -> Verdict
             break Verdict::Flow(i);
         }
         i += 1;
-    }
-}
-
-// The first flow of cycles 0 to c. `earlier` is that of the cycles before c: it stays where it is a flow, and else the verdict of cycle c decides.
-pub fn first_flow(
-    earlier: FirstFlow,
-    c: usize,
-    image: &[u8],
-    bounds: Bounds,
-    nets: &[u8],
-) -> FirstFlow
-    requires { ⌜ checkRefusal (now image) ≡ none ⌝ }
-    requires { ⌜ Bounded (now image) bounds × (length (now nets) ≡ bounds .nets) ⌝ }
-    ensures { λ r. ⌜ firstFlowIn r
-        ≡ firstOf (earlier .cycle) (verdictIn (earlier .verdict))
-        (firstOf c (verdictFrom 0 (netsOf (now (image .entry))) (now (nets .entry))) (firstFlowIn earlier)) ⌝ }
-{
-    let v = earlier.verdict;
-    if let Verdict::Flow(_) = v {
-        return earlier;
-    }
-    let w = verdict_of(image, bounds.nets, bounds.outs, nets);
-    if let Verdict::Clear = w {
-        return earlier;
-    }
-    FirstFlow {
-        cycle: c,
-        verdict: w,
     }
 }

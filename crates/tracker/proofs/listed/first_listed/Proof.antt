@@ -1,17 +1,17 @@
--- `tracker::verdict::first_flow` meets its contract: a flow stays, and a clear verdict leaves what comes later.
+-- `tracker::listed::first_listed` meets its contract: a flow stays, and a clear verdict leaves what comes later.
 use mathlib.Core.Path.{sym, ap, _∙_}
 use borrow.Author.Needs.{needs}
 use Rattle.tracker.specs.Answers.{verdictIn}
 use Rattle.tracker.specs.Cycle.{firstOf}
-use Rattle.tracker.proofs.verdict.first_flow.Statement.{statement}
-use Rattle.tracker.proofs.verdict.first_flow.Tie as tie
+use Rattle.tracker.proofs.listed.first_listed.Statement.{statement}
+use Rattle.tracker.proofs.listed.first_listed.Tie as tie
 
 -- a flow of this cycle
 returns-3 : tie.Need-returns-3
 unfolding firstOf
 returns-3 c =
     let judged = c .before .before in
-    let flow-now = sym (judged .verdict-of .ensures) ∙ ap verdictIn (c .enum-told4 .given .1) in
+    let flow-now = sym (judged .verdict-listed .ensures) ∙ ap verdictIn (c .enum-told4 .given .1) in
     rw (flow-now, judged .before .enum-told2 .given .1, c .enum-told4 .given .1)
 
 -- an earlier flow, and none at all
@@ -23,11 +23,11 @@ returns-2 : tie.Need-returns-2
 unfolding firstOf
 returns-2 c =
     let judged = c .before .before in
-    let clear-now = sym (judged .verdict-of .ensures) ∙ ap verdictIn (c .enum-told3 .given .1) in
+    let clear-now = sym (judged .verdict-listed .ensures) ∙ ap verdictIn (c .enum-told3 .given .1) in
     rw (clear-now, judged .before .enum-told2 .given .1)
 
-pub first-flow-spec : {M : Type 1} → statement M
-first-flow-spec =
+pub first-listed-spec : {M : Type 1} → statement M
+first-listed-spec =
     tie.close
     (tie.spec
     (λ c. search needs)

@@ -1,17 +1,17 @@
--- `tracker::lowest::lowest` meets its contract: no net that was passed is of the kind.
-use Prim.Native.Nat.{_≤_, _-_}
+-- `tracker::settling::lowest_gate` meets its contract: no net that was passed is a gate or OUT.
+use Prim.Native.Nat.{ℕ, _≤_, _<_, _-_}
 use borrow.Author.Count.{below-more}
 use borrow.Author.Needs.{needs}
 use native.Mathlib.Omega.{arith}
-use Rattle.tracker.specs.Passes.{NoneBelow}
-use Rattle.tracker.proofs.lowest.lowest.Statement.{statement}
-use Rattle.tracker.proofs.lowest.lowest.Tie as tie
+use Rattle.netlist.specs.Image.{kindAt}
+use Rattle.tracker.proofs.settling.lowest_gate.Statement.{statement}
+use Rattle.tracker.proofs.settling.lowest_gate.Tie as tie
 
 abbrev Inv-loop : tie.InvT-loop
-Inv-loop image n kind i₀ i = (i ≤ n) × NoneBelow kind image i
+Inv-loop image n i₀ i = (i ≤ n) × ((j : ℕ) → j < i → kindAt image j < 3)
 
 abbrev μ-loop : tie.MeasureT-loop
-μ-loop image n kind i₀ i = n - i
+μ-loop image n i₀ i = n - i
 
 loop-holds : tie.Need-loop-holds Inv-loop μ-loop
 loop-holds c = (search needs, λ i h. absurd (omega arith))
@@ -19,8 +19,8 @@ loop-holds c = (search needs, λ i h. absurd (omega arith))
 loop-again : tie.Need-loop-again Inv-loop μ-loop
 loop-again c = (search needs, below-more _ _ (c .before .before .before .loop .inv .1) (rw (c .before .kind-of .ensures) at (c .if1 .left)))
 
-pub lowest-spec : {M : Type 1} → statement M
-lowest-spec =
+pub lowest-gate-spec : {M : Type 1} → statement M
+lowest-gate-spec =
     tie.close
     (tie.spec
     Inv-loop

@@ -1,0 +1,90 @@
+-- `tracker::lists::verdict_listed` meets its contract. At j, the verdict is that of the listed OUTs that are left.
+use Prim.Native.Nat.{_≤_, _<_, _-_, _+_}
+use borrow.Author.Needs.{needs}
+use native.Mathlib.Omega.{arith}
+use mathlib.Core.Path.{_≡_, sym, ap, _∙_}
+use mathlib.Core.Bool.{_&&_, cond}
+use lib.Dec.{eqb}
+use lib.ListN.{length, getD, drop}
+use Rattle.gates.specs.Kinds.{OUT}
+use Rattle.netlist.specs.Image.{netsOf}
+use Rattle.netlist.proofs.Checked.{Checked, check-none}
+use Rattle.tracker.specs.Cycle.{flow, verdictFrom}
+use Rattle.tracker.proofs.Placing.{verdictAt, verdict-next, verdict-done, verdict-listed, listed-places}
+use Rattle.tracker.proofs.lists.verdict_listed.Statement.{statement}
+use Rattle.tracker.proofs.lists.verdict_listed.Tie as tie
+
+abbrev Inv-loop : tie.InvT-loop
+Inv-loop image n list nets j₀ j = (j ≤ length list) × (verdictFrom 0 (netsOf image) nets ≡ verdictAt image n (drop j list) nets)
+
+abbrev μ-loop : tie.MeasureT-loop
+μ-loop image n list nets j₀ j = length list - j
+
+loop-holds : tie.Need-loop-holds Inv-loop μ-loop
+loop-holds c =
+    let start = c .before .before .before in
+    let args = start .args in
+    (omega arith, sym (ap (λ l. verdictAt (args .image .now) (args .n) l (args .nets .now)) (start .pre .1) ∙ verdict-listed (args .image .now) (start .pre .0 .1) (args .nets .now)))
+
+-- an OUT that is listed
+module _ (c : tie.Else1 Inv-loop μ-loop) where
+  abbrev start : tie.Start Inv-loop μ-loop
+  start = c .before .before .before .before .before
+
+  checked : Checked (start .args .image .now)
+  checked = check-none _ .0 (start .pre .0 .0)
+
+  listed-below : getD (start .args .list .now) (c .before .loop .j) 0 < start .args .n
+  listed-below = listed-places (start .args .image .now) (start .pre .0 .1) OUT (start .pre .1) .below _ (c .if1 .left)
+
+cast-i : tie.Need-cast-i Inv-loop μ-loop
+cast-i c = omega (arith, c .shared-slice-known4 .given (c .before .before .loop .j))
+
+operand-at-requires : tie.Need-operand-at-requires Inv-loop μ-loop
+operand-at-requires c κs = let turn = c .before in (listed-below turn, omega arith, rw (start turn .pre .0 .1) (checked turn .exact))
+
+shared-slice-read-marked : tie.Need-shared-slice-read-marked Inv-loop μ-loop
+shared-slice-read-marked c = let turn = c .before .before .before in rw (start turn .pre .0 .2) (listed-below turn)
+
+-- the OUT at hand decides, or leaves the verdict to those after it
+left : (c : tie.After-marked Inv-loop μ-loop)
+    → let turn = c .before .before .before .before in
+    let args = start turn .args in
+    let j = turn .before .loop .j in
+    verdictFrom 0 (netsOf (args .image .now)) (args .nets .now)
+    ≡ cond (eqb (c .before .before .operand-at .result) 1 && c .marked .result) (flow (getD (args .list .now) j 0)) (verdictAt (args .image .now) (args .n) (drop (j + 1) (args .list .now)) (args .nets .now))
+left c =
+    let turn = c .before .before .before .before in
+    let args = start turn .args in
+    rw (c .before .before .operand-at .ensures .0, c .marked .ensures) (turn .before .loop .inv .1 ∙ verdict-next (args .image .now) (args .n) (args .list .now) (args .nets .now) (turn .before .loop .j) (turn .if1 .left))
+
+loop-again : tie.Need-loop-again Inv-loop μ-loop
+loop-again c = let below = c .before .before .before .before .before .if1 .left in (omega arith, rw (c .if2 .left) at (left (c .before)))
+
+returns : tie.Need-returns Inv-loop μ-loop
+returns c =
+    let at = c .before in
+    let args = at .before .before .before .before .args in
+    sym (at .loop .inv .1 ∙ verdict-done (args .image .now) (args .n) (args .list .now) (args .nets .now) (at .loop .j) (c .if1 .taken))
+
+returns-2 : tie.Need-returns-2 Inv-loop μ-loop
+returns-2 c = sym (rw (c .if2 .taken) at (left (c .before)))
+
+pub verdict-listed-spec : {M : Type 1} → statement M
+verdict-listed-spec =
+    tie.close
+    (tie.spec
+    Inv-loop
+    μ-loop
+    loop-holds
+    (λ c. search needs)
+    (λ c. search needs)
+    cast-i
+    operand-at-requires
+    shared-slice-read-marked
+    (λ c κs. search needs)
+    (λ c. search needs)
+    (λ c. search needs)
+    loop-again
+    returns
+    returns-2)

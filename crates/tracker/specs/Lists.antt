@@ -1,0 +1,67 @@
+-- Terms of the contracts of the passes by lists of net numbers, and of settling. No public call's contract uses them.
+use Prim.Native.Nat.{ℕ, suc, _-_, _<_, _≤_}
+use mathlib.Core.Path.{_≡_}
+use mathlib.Core.List.{List, [], _∷_, map}
+use mathlib.Core.Bool.{cond}
+use lib.Dec.{eqb, leb}
+use lib.ListN.{length, getD, take, drop, set}
+use Rattle.gates.specs.Rules.{gateByte}
+use Rattle.gates.specs.Kinds.{CONST, INPUT, REG, NOT, OUT}
+use Rattle.netlist.specs.declared.image.Net.{Net}
+use Rattle.netlist.specs.Image.{sizesOf, kindAt, operandAt, netsOf}
+use Rattle.tracker.specs.declared.listed.Parts.{Parts}
+use Rattle.tracker.specs.Cycle.{pinByte}
+
+-- the numbers of the nets of kind k among nets, the first of which is net i, in net order
+unfoldable pub placesFrom : (k i : ℕ) → List Net → List ℕ
+placesFrom k i [] = []
+placesFrom k i (x ∷ xs) = cond (eqb (x .kind) k) (i ∷ placesFrom k (suc i) xs) (placesFrom k (suc i) xs)
+
+-- every byte is 0 to 3
+pub record Low (bs : List ℕ) : Type 0 where
+  pub low : (i : ℕ) → getD bs i 0 < 4
+
+-- numbers of nets below n, no two of which are the same
+pub record Places (n : ℕ) (list : List ℕ) : Type 0 where
+  pub below : (j : ℕ) → j < length list → getD list j 0 < n
+  pub different : (j k : ℕ) → j < length list → k < length list → getD list j 0 ≡ getD list k 0 → j ≡ k
+
+-- the first j of the listed nets have taken their bytes, and no other net has changed
+pub record Put (list bytes before after : List ℕ) (j : ℕ) : Type 0 where
+  pub size : length after ≡ length before
+  pub taken : (k : ℕ) → k < j → getD after (getD list k 0) 0 ≡ getD bytes k 0
+  pub others : (i : ℕ) → ((k : ℕ) → k < j → getD list k 0 ≡ i → ⊥) → getD after i 0 ≡ getD before i 0
+
+-- the bytes of the listed nets
+abbrev pub gathered : (list nets : List ℕ) → List ℕ
+gathered list nets = map (λ i. getD nets i 0) list
+
+-- the byte that the rule of net i gives it, if it is a gate or OUT, from the bytes of its pins
+unfoldable pub ruleAt : (s : List ℕ) (n : ℕ) (bs : List ℕ) (i : ℕ) → ℕ
+ruleAt s n bs i = gateByte (kindAt s i) (pinByte bs (operandAt s n i 0)) (pinByte bs (operandAt s n i 1)) (pinByte bs (operandAt s n i 2))
+
+-- net i takes that byte where it is a gate or OUT
+unfoldable pub settledAt : (s : List ℕ) (n i : ℕ) (nets : List ℕ) → List ℕ
+settledAt s n i nets = cond (leb NOT (kindAt s i)) (set nets i (ruleAt s n nets i)) nets
+
+-- the gates and OUTs below net i have the bytes that their rules give, and no net of another kind has changed
+pub record Settled (s : List ℕ) (n : ℕ) (before after : List ℕ) (i : ℕ) : Type 0 where
+  pub size : length after ≡ length before
+  pub sources : (j : ℕ) → kindAt s j < NOT → getD after j 0 ≡ getD before j 0
+  pub gates : (j : ℕ) → j < i → NOT ≤ kindAt s j → getD after j 0 ≡ ruleAt s n after j
+  pub codes : Low after
+
+-- the nets below i: each CONST has its byte, and every byte is 0 to 3
+pub record Prepared (s : List ℕ) (n : ℕ) (nets : List ℕ) (i : ℕ) : Type 0 where
+  pub constants : (j : ℕ) → j < i → kindAt s j ≡ CONST → getD nets j 0 ≡ operandAt s n j 0
+  pub codes : (j : ℕ) → j < i → getD nets j 0 < 4
+
+-- what a run finds out once about an image: N, the first net that may be a gate or OUT, and the lists of the INPUTs, the REGs and the OUTs, one after the other
+pub record Found (s : List ℕ) (p : Parts) (list : List ℕ) : Type 0 where
+  pub nets : p .nets ≡ sizesOf s .nets
+  pub from-upto : p .from ≤ p .nets
+  pub none-below : (i : ℕ) → i < p .from → kindAt s i < NOT
+  pub in-order : (p .regs ≤ p .outs) × (p .outs ≤ p .end) × (p .end ≤ length list)
+  pub ins : take (p .regs) list ≡ placesFrom INPUT 0 (netsOf s)
+  pub regs : take (p .outs - p .regs) (drop (p .regs) list) ≡ placesFrom REG 0 (netsOf s)
+  pub outs : take (p .end - p .outs) (drop (p .outs) list) ≡ placesFrom OUT 0 (netsOf s)
