@@ -18,7 +18,7 @@ use Rattle.netlist.proofs.Nets.{net-in}
 use Rattle.netlist.proofs.Checked.{Checked, length-nets}
 use Rattle.tracker.specs.Cycle.{Walk, netByte, bytesOf}
 use Rattle.tracker.specs.Lists.{Low, placesFrom, Put, Settled, Prepared}
-use Rattle.tracker.proofs.Ruling.{sight, Ruled, ruled-bytes}
+use Rattle.tracker.proofs.Ruling.{sight, Ruled, out-passes-on, ruled-bytes}
 use Rattle.tracker.proofs.Gatewise.{same-or-not, there-or-not, gate-rule}
 use Rattle.tracker.proofs.Placing.{places-selected, place-listed, not-listed}
 use Rattle.tracker.proofs.Selections.{selection-length}
@@ -30,12 +30,11 @@ beyond bs i h = rw (List·getD-eq-default bs 0 {n = i} h) (lit< tt)
 pub low-codes : {bs : List ℕ} → Codes bs → Low bs
 low-codes {bs} h = record { low = λ i. let m = pairs-getD i 0 (lit≤ tt) h in omega arith }
 
-pub low-prepared : {s : List ℕ} {n : ℕ} {nets : List ℕ} → length nets ≡ n → Prepared s n nets n → Low nets
-low-prepared {n = n} {nets} size p =
-    record { low = λ i. ⊎-elim (λ h. p .codes i h) (λ h. beyond nets i (omega arith)) (there-or-not i n) }
-
 -- the byte of a net that is no gate
-module _ (s : List ℕ) (n i : ℕ) (w : Walk) where
+module _ (s : List ℕ) (i : ℕ) (w : Walk) where
+  abbrev n : ℕ
+  n = sizesOf s .nets
+
   const-is : kindAt s i ≡ CONST → netByte gateByte (netAt s n i) w ≡ operandAt s n i 0
   unfolding netByte netAt
   const-is h = rw h
@@ -51,16 +50,16 @@ module _ (s : List ℕ) (n i : ℕ) (w : Walk) where
 abbrev blank : Net
 blank = net 0 0 0 0
 
-module _ {s : List ℕ} {n : ℕ} (c : Checked s) (e : n ≡ sizesOf s .nets) where
-  in-nets : (i : ℕ) → i < n → i < length (netsOf s)
+module _ {s : List ℕ} (c : Checked s) where
+  in-nets : (i : ℕ) → i < sizesOf s .nets → i < length (netsOf s)
   in-nets i h = omega (arith, length-nets s)
 
-  kind-is : (i : ℕ) → i < n → getD (netsOf s) i blank .kind ≡ kindAt s i
+  kind-is : (i : ℕ) → i < sizesOf s .nets → getD (netsOf s) i blank .kind ≡ kindAt s i
   unfolding netAt
-  kind-is i h = ap (λ (x : Net). x .kind) (net-in s n i blank e h)
+  kind-is i h = ap (λ (x : Net). x .kind) (net-in s _ i blank refl h)
 
   -- bytes put to the nets of kind k: each has its own, and the nets of other kinds stay
-  module _ (k : ℕ) {list : List ℕ} (are : list ≡ placesFrom k 0 (netsOf s)) {bytes before after : List ℕ} (put : Put list bytes before after (length list)) (i : ℕ) (h : i < n) where
+  module _ (k : ℕ) {list : List ℕ} (are : list ≡ placesFrom k 0 (netsOf s)) {bytes before after : List ℕ} (put : Put list bytes before after (length list)) (i : ℕ) (h : i < sizesOf s .nets) where
     has : kindAt s i ≡ k → getD after i 0 ≡ getD bytes (count k (take i (netsOf s))) 0
     has o =
         let p = rw are at put in
@@ -70,22 +69,22 @@ module _ {s : List ℕ} {n : ℕ} (c : Checked s) (e : n ≡ sizesOf s .nets) wh
     stays : (kindAt s i ≡ k → ⊥) → getD after i 0 ≡ getD before i 0
     stays other = let p = rw are at put in p .others i (not-listed k (netsOf s) i blank (λ o. other (sym (kind-is i h) ∙ o)))
 
-  module _ {row state nets₀ nets₁ nets₂ ins-list regs-list : List ℕ} (size : length nets₀ ≡ n) (prepared : Prepared s n nets₀ n)
+  module _ {row state nets₀ nets₁ nets₂ ins-list regs-list : List ℕ} (size : length nets₀ ≡ sizesOf s .nets) (prepared : Prepared s nets₀ (sizesOf s .nets))
       (ins-are : ins-list ≡ placesFrom INPUT 0 (netsOf s)) (regs-are : regs-list ≡ placesFrom REG 0 (netsOf s))
       (ins : Put ins-list row nets₀ nets₁ (length ins-list)) (regs : Put regs-list state nets₁ nets₂ (length regs-list)) where
-    pub put-size : length nets₂ ≡ n
+    pub put-size : length nets₂ ≡ sizesOf s .nets
     put-size = regs .size ∙ ins .size ∙ size
 
-    input-put : (i : ℕ) → i < n → kindAt s i ≡ INPUT → getD nets₂ i 0 ≡ getD row (count INPUT (take i (netsOf s))) 0
+    input-put : (i : ℕ) → i < sizesOf s .nets → kindAt s i ≡ INPUT → getD nets₂ i 0 ≡ getD row (count INPUT (take i (netsOf s))) 0
     input-put i h o = stays REG regs-are regs i h (λ q. omega arith) ∙ has INPUT ins-are ins i h o
 
-    register-put : (i : ℕ) → i < n → kindAt s i ≡ REG → getD nets₂ i 0 ≡ getD state (count REG (take i (netsOf s))) 0
+    register-put : (i : ℕ) → i < sizesOf s .nets → kindAt s i ≡ REG → getD nets₂ i 0 ≡ getD state (count REG (take i (netsOf s))) 0
     register-put i h o = has REG regs-are regs i h o
 
-    other-put : (i : ℕ) → i < n → (kindAt s i ≡ INPUT → ⊥) → (kindAt s i ≡ REG → ⊥) → getD nets₂ i 0 ≡ getD nets₀ i 0
+    other-put : (i : ℕ) → i < sizesOf s .nets → (kindAt s i ≡ INPUT → ⊥) → (kindAt s i ≡ REG → ⊥) → getD nets₂ i 0 ≡ getD nets₀ i 0
     other-put i h f g = stays REG regs-are regs i h g ∙ stays INPUT ins-are ins i h f
 
-    const-put : (i : ℕ) → i < n → kindAt s i ≡ CONST → getD nets₂ i 0 ≡ operandAt s n i 0
+    const-put : (i : ℕ) → i < sizesOf s .nets → kindAt s i ≡ CONST → getD nets₂ i 0 ≡ operandAt s (sizesOf s .nets) i 0
     const-put i h o = other-put i h (λ q. omega arith) (λ q. omega arith) ∙ prepared .constants i h o
 
     -- all bytes are low where the row's and the state's are
@@ -104,30 +103,30 @@ module _ {s : List ℕ} {n : ℕ} (c : Checked s) (e : n ≡ sizesOf s .nets) wh
               (same-or-not (kindAt s i) REG))
               (same-or-not (kindAt s i) INPUT))
               (λ h. beyond nets₂ i (omega (arith, put-size)))
-              (there-or-not i n);
+              (there-or-not i (sizesOf s .nets));
         }
 
     -- the gates settled
-    module _ {nets₃ : List ℕ} (w : Settled s n nets₂ nets₃ n) where
+    module _ {nets₃ : List ℕ} (w : Settled s nets₂ nets₃ (sizesOf s .nets)) where
       abbrev seen : ℕ → Walk
       seen i = sight (netsOf s) row state nets₃ i
 
-      by-kind : (i : ℕ) → i < n → getD nets₃ i 0 ≡ netByte gateByte (netAt s n i) (seen i)
+      by-kind : (i : ℕ) → i < sizesOf s .nets → getD nets₃ i 0 ≡ netByte gateByte (netAt s (sizesOf s .nets) i) (seen i)
       by-kind i h =
           ⊎-elim
           (λ source.
           w .sources i source
           ∙ ⊎-elim
-          (λ o. const-put i h o ∙ sym (const-is s n i (seen i) o))
+          (λ o. const-put i h o ∙ sym (const-is s i (seen i) o))
           (λ f.
           ⊎-elim
-          (λ o. input-put i h o ∙ sym (input-is s n i (seen i) o ∙ getD-drop (count INPUT (take i (netsOf s))) row 0 0 ∙ rw add-zero))
+          (λ o. input-put i h o ∙ sym (input-is s i (seen i) o ∙ getD-drop (count INPUT (take i (netsOf s))) row 0 0 ∙ rw add-zero))
           (λ g.
           let o : kindAt s i ≡ REG = only source f g in
-          register-put i h o ∙ sym (register-is s n i (seen i) o ∙ getD-drop (count REG (take i (netsOf s))) state 0 0 ∙ rw add-zero))
+          register-put i h o ∙ sym (register-is s i (seen i) o ∙ getD-drop (count REG (take i (netsOf s))) state 0 0 ∙ rw add-zero))
           (same-or-not (kindAt s i) INPUT))
           (same-or-not (kindAt s i) CONST))
-          (λ gate. w .gates i h gate ∙ sym (gate-rule s n i (seen i) gate))
+          (λ gate. w .gates i h gate ∙ sym (gate-rule s i (seen i) gate))
           (there-or-not (kindAt s i) NOT)
         where
           only : {k : ℕ} → k < 3 → (k ≡ 0 → ⊥) → (k ≡ 1 → ⊥) → k ≡ 2
@@ -135,14 +134,14 @@ module _ {s : List ℕ} {n : ℕ} (c : Checked s) (e : n ≡ sizesOf s .nets) wh
 
       pub settled-bytes : nets₃ ≡ bytesOf gateByte (netsOf s) row state
       settled-bytes =
-          ruled-bytes (c .nets) row state
+          ruled-bytes out-passes-on (c .nets) row state
           (record {
-            size = w .size ∙ put-size ∙ e ∙ sym (length-nets s);
-            byte = λ i d h. let l : i < n = omega (arith, length-nets s) in rw (net-in s n i d e l) (by-kind i l);
+            size = w .size ∙ put-size ∙ sym (length-nets s);
+            byte = λ i d h. let l : i < sizesOf s .nets = omega (arith, length-nets s) in rw (net-in s _ i d refl l) (by-kind i l);
           })
           blank
 
-      pub settled-prepared : Prepared s n nets₃ n
+      pub settled-prepared : Prepared s nets₃ (sizesOf s .nets)
       settled-prepared =
           record {
             constants = λ i h o. w .sources i (rw o (lit< tt)) ∙ const-put i h o;

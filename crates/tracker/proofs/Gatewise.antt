@@ -18,7 +18,7 @@ use Rattle.netlist.specs.Image.{sizesOf, net, kindAt, operandAt, netAt}
 use Rattle.netlist.proofs.Checked.{Passes, is-const, is-input, is-reg, is-not, is-and, is-or, is-xor, is-mux, is-out, Checked, net-passes}
 use Rattle.tracker.specs.Cycle.{Walk, pinByte, netByte}
 use Rattle.tracker.specs.Lists.{Low, ruleAt, settledAt, Settled, Prepared}
-use Rattle.tracker.proofs.Ruling.{same-byte}
+use Rattle.tracker.proofs.Ruling.{out-passes-on, same-byte}
 
 -- NUMBERS that are the same, or not
 pub same-or-not : (i j : ℕ) → (i ≡ j) ⊎ (i ≡ j → ⊥)
@@ -53,9 +53,10 @@ low-set {bs} i v l h =
           (same-or-not j i);
     }
 
-pub rule-low : (s : List ℕ) (n : ℕ) {bs : List ℕ} (i : ℕ) → Low bs → ruleAt s n bs i < 4
+pub rule-low : (s : List ℕ) {bs : List ℕ} (i : ℕ) → Low bs → ruleAt s bs i < 4
 unfolding ruleAt pinByte
-rule-low s n {bs} i l =
+rule-low s {bs} i l =
+    let n = sizesOf s .nets in
     let x = getD bs (operandAt s n i 0) 0 in
     let y = getD bs (operandAt s n i 1) 0 in
     let z = getD bs (operandAt s n i 2) 0 in
@@ -66,16 +67,16 @@ rule-low s n {bs} i l =
     omega arith
 
 -- THE RULE of a gate or OUT is that of the cycle, and depends on the bytes below it alone
-pub gate-rule : (s : List ℕ) (n i : ℕ) (w : Walk) → NOT ≤ kindAt s i → netByte gateByte (netAt s n i) w ≡ ruleAt s n (w .bytes) i
+pub gate-rule : (s : List ℕ) (i : ℕ) (w : Walk) → NOT ≤ kindAt s i → netByte gateByte (netAt s (sizesOf s .nets) i) w ≡ ruleAt s (w .bytes) i
 unfolding netByte netAt ruleAt
-gate-rule s n i w h = rw (ne-eqb (kindAt s i) 0 (λ e. omega arith), ne-eqb (kindAt s i) 1 (λ e. omega arith), ne-eqb (kindAt s i) 2 (λ e. omega arith))
+gate-rule s i w h = rw (ne-eqb (kindAt s i) 0 (λ e. omega arith), ne-eqb (kindAt s i) 1 (λ e. omega arith), ne-eqb (kindAt s i) 2 (λ e. omega arith))
 
-rule-same : (s : List ℕ) (n : ℕ) (bs cs : List ℕ) (i : ℕ) → Passes n i (netAt s n i) → NOT ≤ kindAt s i
-    → ((j : ℕ) → j < i → getD bs j 0 ≡ getD cs j 0) → ruleAt s n bs i ≡ ruleAt s n cs i
-rule-same s n bs cs i p h below =
+rule-same : (s bs cs : List ℕ) (i : ℕ) → Passes (sizesOf s .nets) i (netAt s (sizesOf s .nets) i) → NOT ≤ kindAt s i
+    → ((j : ℕ) → j < i → getD bs j 0 ≡ getD cs j 0) → ruleAt s bs i ≡ ruleAt s cs i
+rule-same s bs cs i p h below =
     let v : Walk = record { bytes = bs; row = []; state = [] } in
     let w : Walk = record { bytes = cs; row = []; state = [] } in
-    sym (gate-rule s n i v h) ∙ same-byte v w p below refl refl ∙ gate-rule s n i w h
+    sym (gate-rule s i v h) ∙ same-byte out-passes-on v w p below refl refl ∙ gate-rule s i w h
 
 -- what a gate or OUT reads is there. Operand b of an OUT, its policy, is read as a pin is
 pub record Pins (n : ℕ) (x : Net) : Type 0 where
@@ -95,38 +96,38 @@ gate-pins (is-xor p q) l h = record { kind = lit< tt; a = omega arith; b = omega
 gate-pins (is-mux p q r) l h = record { kind = lit< tt; a = omega arith; b = omega arith; c = omega arith }
 gate-pins (is-out p q) l h = record { kind = lit< tt; a = omega arith; b = omega arith; c = omega arith }
 
-pub pins-there : {s : List ℕ} {n : ℕ} → Checked s → n ≡ sizesOf s .nets → (i : ℕ) → i < n → NOT ≤ kindAt s i
-    → Pins n (net (kindAt s i) (operandAt s n i 0) (operandAt s n i 1) (operandAt s n i 2))
+pub pins-there : {s : List ℕ} → Checked s → (i : ℕ) → i < sizesOf s .nets → NOT ≤ kindAt s i
+    → Pins (sizesOf s .nets) (net (kindAt s i) (operandAt s (sizesOf s .nets) i 0) (operandAt s (sizesOf s .nets) i 1) (operandAt s (sizesOf s .nets) i 2))
 unfolding netAt
-pins-there c e i h g = gate-pins (net-passes c e i h) h g
+pins-there c i h g = gate-pins (net-passes c refl i h) h g
 
 -- SETTLING may start at any net below which there is no gate and no OUT
-pub settle-begins : {s : List ℕ} {n : ℕ} {nets : List ℕ} {from : ℕ} → Low nets → ((i : ℕ) → i < from → kindAt s i < NOT) → Settled s n nets nets from
+pub settle-begins : {s nets : List ℕ} {from : ℕ} → Low nets → ((i : ℕ) → i < from → kindAt s i < NOT) → Settled s nets nets from
 settle-begins l none = record { size = refl; sources = λ j h. refl; gates = λ j h g. let m = none j h in absurd (omega arith); codes = l }
 
-module _ {s : List ℕ} {n : ℕ} (c : Checked s) (e : n ≡ sizesOf s .nets) {before nets : List ℕ} {i : ℕ} (h : i < n) (size : length nets ≡ n)
-    (w : Settled s n before nets i) where
+module _ {s : List ℕ} (c : Checked s) {before nets : List ℕ} {i : ℕ} (h : i < sizesOf s .nets) (size : length nets ≡ sizesOf s .nets)
+    (w : Settled s before nets i) where
   -- a gate or OUT
-  takes : NOT ≤ kindAt s i → Settled s n before (set nets i (ruleAt s n nets i)) (suc i)
+  takes : NOT ≤ kindAt s i → Settled s before (set nets i (ruleAt s nets i)) (suc i)
   takes g =
-      let v = ruleAt s n nets i in
+      let v = ruleAt s nets i in
       let kept : (j : ℕ) → (j ≡ i → ⊥) → getD (set nets i v) j 0 ≡ getD nets j 0 = λ j o. getD-set-other nets i j v 0 o in
       record {
         size = length-set nets i v ∙ w .size;
         sources = λ j l. kept j (λ o. let m = rw o at l in omega arith) ∙ w .sources j l;
         gates = λ j l k.
             ⊎-elim
-            (λ o. rw o (getD-set-same nets i v 0 (omega arith) ∙ rule-same s n nets (set nets i v) i (net-passes c e i h) g (λ a m. sym (kept a (λ o. omega arith)))))
+            (λ o. rw o (getD-set-same nets i v 0 (omega arith) ∙ rule-same s nets (set nets i v) i (net-passes c refl i h) g (λ a m. sym (kept a (λ o. omega arith)))))
             (λ m.
             kept j (λ o. omega arith)
             ∙ w .gates j m k
-            ∙ rule-same s n nets (set nets i v) j (net-passes c e j (omega arith)) k (λ a m. sym (kept a (λ o. omega arith))))
+            ∙ rule-same s nets (set nets i v) j (net-passes c refl j (omega arith)) k (λ a m. sym (kept a (λ o. omega arith))))
             (below-or-here i j l);
-        codes = low-set i v (w .codes) (rule-low s n i (w .codes));
+        codes = low-set i v (w .codes) (rule-low s i (w .codes));
       }
 
   -- a net of another kind
-  stays : kindAt s i < NOT → Settled s n before nets (suc i)
+  stays : kindAt s i < NOT → Settled s before nets (suc i)
   stays g =
       record {
         size = w .size;
@@ -135,30 +136,30 @@ module _ {s : List ℕ} {n : ℕ} (c : Checked s) (e : n ≡ sizesOf s .nets) {b
         codes = w .codes;
       }
 
-  either : (b : Bool) → leb NOT (kindAt s i) ≡ b → Settled s n before (cond b (set nets i (ruleAt s n nets i)) nets) (suc i)
+  either : (b : Bool) → leb NOT (kindAt s i) ≡ b → Settled s before (cond b (set nets i (ruleAt s nets i)) nets) (suc i)
   either true o = takes (leb-true NOT (kindAt s i) o)
   either false o = stays (leb-false NOT (kindAt s i) o)
 
-  pub settle-goes-on : Settled s n before (settledAt s n i nets) (suc i)
+  pub settle-goes-on : Settled s before (settledAt s i nets) (suc i)
   unfolding settledAt
   settle-goes-on = either (leb NOT (kindAt s i)) refl
 
-  pub settle-next : {exit : List ℕ} {j : ℕ} → exit ≡ settledAt s n i nets → j ≡ suc i → Settled s n before exit j
+  pub settle-next : {exit : List ℕ} {j : ℕ} → exit ≡ settledAt s i nets → j ≡ suc i → Settled s before exit j
   settle-next o j-is = rw (o, j-is) settle-goes-on
 
-pub settled-at : {s : List ℕ} {n : ℕ} {before after : List ℕ} {i j : ℕ} → i ≡ j → Settled s n before after i → Settled s n before after j
+pub settled-at : {s before after : List ℕ} {i j : ℕ} → i ≡ j → Settled s before after i → Settled s before after j
 settled-at e w = rw e at w
 
 -- in two passes
-pub settled-so-far : {s : List ℕ} {n : ℕ} {before after : List ℕ} {i : ℕ} → Settled s n before after i → Settled s n after after i
+pub settled-so-far : {s before after : List ℕ} {i : ℕ} → Settled s before after i → Settled s after after i
 settled-so-far w = record { size = refl; sources = λ j h. refl; gates = w .gates; codes = w .codes }
 
-pub settled-then : {s : List ℕ} {n : ℕ} {before middle after : List ℕ} {i j : ℕ} → Settled s n before middle i → Settled s n middle after j → Settled s n before after j
+pub settled-then : {s before middle after : List ℕ} {i j : ℕ} → Settled s before middle i → Settled s middle after j → Settled s before after j
 settled-then v w = record { size = w .size ∙ v .size; sources = λ j h. w .sources j h ∙ v .sources j h; gates = w .gates; codes = w .codes }
 
 -- PREPARING: each net below i has its constant, or 0
-abbrev pub firstByte : (s : List ℕ) (n i : ℕ) → ℕ
-firstByte s n i = cond (eqb (kindAt s i) CONST) (operandAt s n i 0 % 2) 0
+abbrev pub firstByte : (s : List ℕ) (i : ℕ) → ℕ
+firstByte s i = cond (eqb (kindAt s i) CONST) (operandAt s (sizesOf s .nets) i 0 % 2) 0
 
 const-small : {n i : ℕ} {x : Net} → Passes n i x → x .kind ≡ CONST → x .a ≤ 1
 const-small (is-const p) h = p
@@ -171,21 +172,22 @@ const-small (is-xor p q) h = absurd (omega arith)
 const-small (is-mux p q r) h = absurd (omega arith)
 const-small (is-out p q) h = absurd (omega arith)
 
-constant-at : {s : List ℕ} {n : ℕ} → Checked s → n ≡ sizesOf s .nets → (i : ℕ) → i < n → kindAt s i ≡ CONST → operandAt s n i 0 ≤ 1
+constant-at : {s : List ℕ} → Checked s → (i : ℕ) → i < sizesOf s .nets → kindAt s i ≡ CONST → operandAt s (sizesOf s .nets) i 0 ≤ 1
 unfolding netAt
-constant-at c e i h k = const-small (net-passes c e i h) k
+constant-at c i h k = const-small (net-passes c refl i h) k
 
 first-low : (b : Bool) (a : ℕ) → cond b (a % 2) 0 < 4
 first-low true a = omega arith
 first-low false a = lit< tt
 
-pub prepare-begins : {s : List ℕ} {n : ℕ} {nets : List ℕ} → Prepared s n nets 0
+pub prepare-begins : {s nets : List ℕ} → Prepared s nets 0
 prepare-begins = record { constants = λ j h. absurd (omega arith); codes = λ j h. absurd (omega arith) }
 
-pub prepare-goes-on : {s : List ℕ} {n : ℕ} {nets : List ℕ} {i : ℕ} → Checked s → n ≡ sizesOf s .nets → i < n → length nets ≡ n
-    → Prepared s n nets i → Prepared s n (set nets i (firstByte s n i)) (suc i)
-prepare-goes-on {s} {n} {nets} {i} c e h size p =
-    let v = firstByte s n i in
+pub prepare-goes-on : {s nets : List ℕ} {i : ℕ} → Checked s → i < sizesOf s .nets → length nets ≡ sizesOf s .nets
+    → Prepared s nets i → Prepared s (set nets i (firstByte s i)) (suc i)
+prepare-goes-on {s} {nets} {i} c h size p =
+    let n = sizesOf s .nets in
+    let v = firstByte s i in
     let here : getD (set nets i v) i 0 ≡ v = getD-set-same nets i v 0 (omega arith) in
     let kept : (j : ℕ) → j < i → getD (set nets i v) j 0 ≡ getD nets j 0 = λ j m. getD-set-other nets i j v 0 (λ o. omega arith) in
     record {
@@ -193,7 +195,7 @@ prepare-goes-on {s} {n} {nets} {i} c e h size p =
           ⊎-elim
           (λ o.
           let m : kindAt s i ≡ CONST = ap (λ a. kindAt s a) (sym o) ∙ k in
-          let small : operandAt s n i 0 % 2 ≡ operandAt s n i 0 = omega (arith, constant-at c e i h m) in
+          let small : operandAt s n i 0 % 2 ≡ operandAt s n i 0 = omega (arith, constant-at c i h m) in
           rw o (here ∙ rw (eq-eqb (kindAt s i) CONST m) small))
           (λ m. kept j m ∙ p .constants j m k)
           (below-or-here i j l);

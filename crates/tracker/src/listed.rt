@@ -72,15 +72,8 @@ fn find_parts(image: &[u8], list: &mut [u16]) -> Parts
 }
 
 // The first flow of cycles 0 to c, by the listed OUTs. `earlier` is that of the cycles before c.
-fn first_listed(
-    earlier: FirstFlow,
-    c: usize,
-    image: &[u8],
-    n: usize,
-    outs: &[u16],
-    nets: &[u8],
-) -> FirstFlow
-    requires { ⌜ (checkRefusal (now image) ≡ none) × (n ≡ sizesOf (now image) .nets) × (length (now nets) ≡ n) ⌝ }
+fn first_listed(earlier: FirstFlow, c: usize, image: &[u8], outs: &[u16], nets: &[u8]) -> FirstFlow
+    requires { ⌜ (checkRefusal (now image) ≡ none) × (length (now nets) ≡ sizesOf (now image) .nets) ⌝ }
     requires { ⌜ now outs ≡ placesFrom OUT 0 (netsOf (now image)) ⌝ }
     ensures { λ r. ⌜ firstFlowIn r
         ≡ firstOf (earlier .cycle) (verdictIn (earlier .verdict))
@@ -90,7 +83,7 @@ fn first_listed(
     if let Verdict::Flow(_) = v {
         return earlier;
     }
-    let w = verdict_listed(image, n, outs, nets);
+    let w = verdict_listed(image, outs, nets);
     if let Verdict::Clear = w {
         return earlier;
     }
@@ -112,9 +105,9 @@ fn work_out_listed(
 )
     requires { ⌜ GateTable (now t) ⌝ }
     requires { ⌜ stepRefusal (now image) (now state) (now row) (now nets) ≡ none ⌝ }
-    requires { ⌜ Found (now image) p (now list) × Prepared (now image) (p .nets) (now nets) (p .nets) ⌝ }
+    requires { ⌜ Found (now image) p (now list) × Prepared (now image) (now nets) (sizesOf (now image) .nets) ⌝ }
     ensures { λ r. ⌜ now (nets .exit) ≡ bytesOf gateByte (netsOf (now (image .entry))) (now (row .entry)) (now (state .entry)) ⌝ }
-    ensures { λ r. ⌜ Prepared (now (image .entry)) (p .nets) (now (nets .exit)) (p .nets) ⌝ }
+    ensures { λ r. ⌜ Prepared (now (image .entry)) (now (nets .exit)) (sizesOf (now (image .entry)) .nets) ⌝ }
 {
     let regs_at = p.regs;
     let outs_at = p.outs;
@@ -141,13 +134,13 @@ fn listed_cycle(
 ) -> FirstFlow
     requires { ⌜ GateTable (now t) ⌝ }
     requires { ⌜ stepRefusal (now image) (now state) (now row) (now nets) ≡ none ⌝ }
-    requires { ⌜ Found (now image) p (now list) × Prepared (now image) (p .nets) (now nets) (p .nets) × (length (now outputs) ≡ sizesOf (now image) .outputs) ⌝ }
+    requires { ⌜ Found (now image) p (now list) × Prepared (now image) (now nets) (sizesOf (now image) .nets) × (length (now outputs) ≡ sizesOf (now image) .outputs) ⌝ }
     ensures { λ r. ⌜ firstFlowIn r
         ≡ firstOf (earlier .cycle) (verdictIn (earlier .verdict))
         (firstOf c (cycleOf (netsOf (now (image .entry))) (now (row .entry)) (now (state .entry)) .verdict) (firstFlowIn earlier)) ⌝ }
     ensures { λ r. ⌜ now (outputs .exit) ≡ cycleOf (netsOf (now (image .entry))) (now (row .entry)) (now (state .entry)) .outputs ⌝ }
     ensures { λ r. ⌜ now (state .exit) ≡ cycleOf (netsOf (now (image .entry))) (now (row .entry)) (now (state .entry)) .state ⌝ }
-    ensures { λ r. ⌜ Prepared (now (image .entry)) (p .nets) (now (nets .exit)) (p .nets) ⌝ }
+    ensures { λ r. ⌜ Prepared (now (image .entry)) (now (nets .exit)) (sizesOf (now (image .entry)) .nets) ⌝ }
 {
     work_out_listed(image, p, t, list, row, state, nets);
     let regs_at = p.regs;
@@ -155,9 +148,9 @@ fn listed_cycle(
     let end = p.end;
     let regs = &list[regs_at..outs_at];
     let outs = &list[outs_at..end];
-    let first = first_listed(earlier, c, image, p.nets, outs, nets);
+    let first = first_listed(earlier, c, image, outs, nets);
     take_bytes(outs, nets, outputs);
-    clock_listed(image, p.nets, regs, nets, state);
+    clock_listed(image, regs, nets, state);
     first
 }
 

@@ -2,7 +2,7 @@
 use crate::answer::Verdict;
 use gates::marked;
 use netlist::kind_of;
-use netlist::operand_at;
+use netlist::operand_of;
 ghost use mathlib.Core.Path.{_≡_};
 ghost use mathlib.Core.Option.{none};
 ghost use mathlib.Core.Bool.{cond};
@@ -63,22 +63,22 @@ pub fn take_bytes(list: &[u16], nets: &[u8], bytes: &mut [u8])
 }
 
 // The clock: every listed register takes the byte of its net, all together.
-pub fn clock_listed(image: &[u8], n: usize, list: &[u16], nets: &[u8], state: &mut [u8])
-    requires { ⌜ (checkRefusal (now image) ≡ none) × (n ≡ sizesOf (now image) .nets) × (length (now nets) ≡ n) ⌝ }
+pub fn clock_listed(image: &[u8], list: &[u16], nets: &[u8], state: &mut [u8])
+    requires { ⌜ (checkRefusal (now image) ≡ none) × (length (now nets) ≡ sizesOf (now image) .nets) ⌝ }
     requires { ⌜ (now list ≡ placesFrom REG 0 (netsOf (now image))) × (length (now state) ≡ length (now list)) ⌝ }
     ensures { λ r. ⌜ now (state .exit) ≡ clocked (netsOf (now (image .entry))) (now (nets .entry)) ⌝ }
 {
     let mut j: usize = 0;
     while j < list.len() {
-        let a = operand_at(image, n, list[j] as usize, 0);
+        let a = operand_of(image, list[j] as usize, 0);
         state[j] = nets[a];
         j += 1;
     }
 }
 
 // A flow at the first of the listed OUTs that is protected and has mark 1, or clear.
-pub fn verdict_listed(image: &[u8], n: usize, list: &[u16], nets: &[u8]) -> Verdict
-    requires { ⌜ (checkRefusal (now image) ≡ none) × (n ≡ sizesOf (now image) .nets) × (length (now nets) ≡ n) ⌝ }
+pub fn verdict_listed(image: &[u8], list: &[u16], nets: &[u8]) -> Verdict
+    requires { ⌜ (checkRefusal (now image) ≡ none) × (length (now nets) ≡ sizesOf (now image) .nets) ⌝ }
     requires { ⌜ now list ≡ placesFrom OUT 0 (netsOf (now image)) ⌝ }
     ensures { λ r. ⌜ verdictIn r ≡ verdictFrom 0 (netsOf (now (image .entry))) (now (nets .entry)) ⌝ }
 {
@@ -88,7 +88,7 @@ pub fn verdict_listed(image: &[u8], n: usize, list: &[u16], nets: &[u8]) -> Verd
             break Verdict::Clear;
         }
         let i = list[j] as usize;
-        if (operand_at(image, n, i, 1) == 1) & marked(nets[i]) {
+        if (operand_of(image, i, 1) == 1) & marked(nets[i]) {
             break Verdict::Flow(i);
         }
         j += 1;

@@ -4,7 +4,7 @@ use gates::NOT;
 use gates::REG;
 use gates::gate_byte;
 use netlist::kind_of;
-use netlist::operand_at;
+use netlist::operand_of;
 ghost use mathlib.Core.Path.{_≡_};
 ghost use mathlib.Core.Option.{none};
 ghost use mathlib.Core.Bool.{cond};
@@ -29,7 +29,6 @@ struct Taken {
 // The byte of net i. `inputs` row bytes and `registers` state bytes are taken already, and all nets below i have their bytes.
 fn net_byte(
     image: &[u8],
-    n: usize,
     i: usize,
     t: &[u8; 576],
     row: &[u8],
@@ -39,18 +38,18 @@ fn net_byte(
     nets: &[u8],
 ) -> Taken
     requires { ⌜ GateTable (now t) ⌝ }
-    requires { ⌜ (i < n) × (length (now image) ≡ 8 + 7 * n) × (length (now nets) ≡ n) ⌝ }
-    requires { ⌜ Readable (now image) n (now row) (now state) (now nets) i inputs registers ⌝ }
+    requires { ⌜ (i < sizesOf (now image) .nets) × (length (now image) ≡ 8 + 7 * sizesOf (now image) .nets) × (length (now nets) ≡ sizesOf (now image) .nets) ⌝ }
+    requires { ⌜ Readable (now image) (sizesOf (now image) .nets) (now row) (now state) (now nets) i inputs registers ⌝ }
     ensures { λ r. ⌜ r .byte
-        ≡ netByte gateByte (netAt (now (image .entry)) n i) (walkAt (now (row .entry)) (now (state .entry)) (now (nets .entry)) i inputs registers) ⌝ }
+        ≡ netByte gateByte (netAt (now (image .entry)) (sizesOf (now (image .entry)) .nets) i) (walkAt (now (row .entry)) (now (state .entry)) (now (nets .entry)) i inputs registers) ⌝ }
     ensures { λ r. ⌜ r .inputs ≡ inputs + cond (eqb (kindAt (now (image .entry)) i) INPUT) 1 0 ⌝ }
     ensures { λ r. ⌜ r .registers ≡ registers + cond (eqb (kindAt (now (image .entry)) i) REG) 1 0 ⌝ }
 {
     let kind = kind_of(image, i);
-    let a = operand_at(image, n, i, 0);
+    let a = operand_of(image, i, 0);
     if NOT <= kind {
-        let b = operand_at(image, n, i, 1);
-        let c = operand_at(image, n, i, 2);
+        let b = operand_of(image, i, 1);
+        let c = operand_of(image, i, 2);
         let byte = gate_byte(t, kind, nets[a], nets[b], nets[c]);
         return Taken {
             byte,
@@ -72,8 +71,9 @@ fn net_byte(
             registers: registers + 1,
         };
     }
+    let byte = a as u8;
     Taken {
-        byte: a as u8,
+        byte,
         inputs,
         registers,
     }
@@ -95,7 +95,7 @@ pub fn work_out(image: &[u8], n: usize, t: &[u8; 576], row: &[u8], state: &[u8],
     let mut registers: usize = 0;
     let mut i: usize = 0;
     while i < n {
-        let x = net_byte(image, n, i, t, row, inputs, state, registers, nets);
+        let x = net_byte(image, i, t, row, inputs, state, registers, nets);
         nets[i] = x.byte;
         inputs = x.inputs;
         registers = x.registers;

@@ -3,7 +3,7 @@ use gates::CONST;
 use gates::NOT;
 use gates::gate_byte;
 use netlist::kind_of;
-use netlist::operand_at;
+use netlist::operand_of;
 ghost use mathlib.Core.Path.{_≡_};
 ghost use mathlib.Core.Option.{none};
 ghost use mathlib.Core.Bool.{cond};
@@ -27,11 +27,11 @@ fn first_byte(kind: u8, a: usize) -> u8
 // The bytes before the first cycle: a CONST's own, and 0 elsewhere.
 pub fn set_constants(image: &[u8], n: usize, nets: &mut [u8])
     requires { ⌜ (checkRefusal (now image) ≡ none) × (n ≡ sizesOf (now image) .nets) × (length (now nets) ≡ n) ⌝ }
-    ensures { λ r. ⌜ Prepared (now (image .entry)) n (now (nets .exit)) n ⌝ }
+    ensures { λ r. ⌜ Prepared (now (image .entry)) (now (nets .exit)) n ⌝ }
 {
     let mut i: usize = 0;
     while i < n {
-        nets[i] = first_byte(kind_of(image, i), operand_at(image, n, i, 0));
+        nets[i] = first_byte(kind_of(image, i), operand_of(image, i, 0));
         i += 1;
     }
 }
@@ -52,16 +52,16 @@ pub fn lowest_gate(image: &[u8], n: usize) -> usize
 }
 
 // Net i takes its byte where it is a gate or OUT, and keeps the one that it has where not.
-fn settle(image: &[u8], n: usize, t: &[u8; 576], i: usize, nets: &mut [u8])
+fn settle(image: &[u8], t: &[u8; 576], i: usize, nets: &mut [u8])
     requires { ⌜ GateTable (now t) ⌝ }
-    requires { ⌜ (checkRefusal (now image) ≡ none) × (n ≡ sizesOf (now image) .nets) × (i < n) × (length (now nets) ≡ n) × Low (now nets) ⌝ }
-    ensures { λ r. ⌜ now (nets .exit) ≡ settledAt (now (image .entry)) n i (now (nets .entry)) ⌝ }
+    requires { ⌜ (checkRefusal (now image) ≡ none) × (i < sizesOf (now image) .nets) × (length (now nets) ≡ sizesOf (now image) .nets) × Low (now nets) ⌝ }
+    ensures { λ r. ⌜ now (nets .exit) ≡ settledAt (now (image .entry)) i (now (nets .entry)) ⌝ }
 {
     let kind = kind_of(image, i);
     if NOT <= kind {
-        let a = operand_at(image, n, i, 0);
-        let b = operand_at(image, n, i, 1);
-        let c = operand_at(image, n, i, 2);
+        let a = operand_of(image, i, 0);
+        let b = operand_of(image, i, 1);
+        let c = operand_of(image, i, 2);
         nets[i] = gate_byte(t, kind, nets[a], nets[b], nets[c]);
     }
 }
@@ -72,14 +72,14 @@ fn settle_fours(image: &[u8], n: usize, t: &[u8; 576], from: usize, nets: &mut [
     requires { ⌜ GateTable (now t) ⌝ }
     requires { ⌜ (checkRefusal (now image) ≡ none) × (n ≡ sizesOf (now image) .nets) × (length (now nets) ≡ n) × Low (now nets) ⌝ }
     requires { ⌜ (from ≤ n) × ((i : ℕ) → i < from → kindAt (now image) i < NOT) ⌝ }
-    ensures { λ r. ⌜ (r ≤ n) × Settled (now (image .entry)) n (now (nets .entry)) (now (nets .exit)) r ⌝ }
+    ensures { λ r. ⌜ (r ≤ n) × Settled (now (image .entry)) (now (nets .entry)) (now (nets .exit)) r ⌝ }
 {
     let mut i = from;
     while i + 3 < n {
-        settle(image, n, t, i, nets);
-        settle(image, n, t, i + 1, nets);
-        settle(image, n, t, i + 2, nets);
-        settle(image, n, t, i + 3, nets);
+        settle(image, t, i, nets);
+        settle(image, t, i + 1, nets);
+        settle(image, t, i + 2, nets);
+        settle(image, t, i + 3, nets);
         i += 4;
     }
     i
@@ -90,11 +90,11 @@ pub fn settle_nets(image: &[u8], n: usize, t: &[u8; 576], from: usize, nets: &mu
     requires { ⌜ GateTable (now t) ⌝ }
     requires { ⌜ (checkRefusal (now image) ≡ none) × (n ≡ sizesOf (now image) .nets) × (length (now nets) ≡ n) × Low (now nets) ⌝ }
     requires { ⌜ (from ≤ n) × ((i : ℕ) → i < from → kindAt (now image) i < NOT) ⌝ }
-    ensures { λ r. ⌜ Settled (now (image .entry)) n (now (nets .entry)) (now (nets .exit)) n ⌝ }
+    ensures { λ r. ⌜ Settled (now (image .entry)) (now (nets .entry)) (now (nets .exit)) n ⌝ }
 {
     let mut i = settle_fours(image, n, t, from, nets);
     while i < n {
-        settle(image, n, t, i, nets);
+        settle(image, t, i, nets);
         i += 1;
     }
 }

@@ -1,6 +1,6 @@
 -- `tracker::listed::listed_cycle` meets its contract: the bytes of all nets are those of the cycle, and so are what is read off them.
 use Prim.Native.Nat.{ℕ, _-_}
-use mathlib.Core.Path.{_≡_, sym, ap, _∙_}
+use mathlib.Core.Path.{_≡_, refl, sym, ap, _∙_}
 use mathlib.Core.List.{map}
 use lib.ListN.{length, getD, take, drop}
 use borrow.Author.Needs.{needs}
@@ -27,14 +27,14 @@ module _ (c : tie.After-work-out-listed) where
   abbrev start : tie.Start
   start = c .before .before .before .before .before .before .before .before .before
 
-  size : length (c .work-out-listed .last .1 .1 .1 .1 .1 .1 .0) ≡ start .args .p .nets
-  size = c .work-out-listed .kept .1 .1 .1 .1 .1 .1 .0 ∙ step-none _ _ _ _ .0 (start .pre .1 .0) .1 ∙ sym (found start .nets)
+  size : length (c .work-out-listed .last .1 .1 .1 .1 .1 .1 .0) ≡ sizesOf (start .args .image .now) .nets
+  size = c .work-out-listed .kept .1 .1 .1 .1 .1 .1 .0 ∙ step-none _ _ _ _ .0 (start .pre .1 .0) .1
 
 first-listed-requires : tie.Need-first-listed-requires
 first-listed-requires c κs =
     let worked = c .before .before .before .before .before in
     let begun = start worked in
-    ((check-none _ .1 (ready begun .image), found begun .nets, size worked), found begun .outs)
+    ((check-none _ .1 (ready begun .image), size worked), found begun .outs)
 
 take-bytes-requires : tie.Need-take-bytes-requires
 take-bytes-requires c κs =
@@ -42,7 +42,7 @@ take-bytes-requires c κs =
     let begun = start worked in
     let s = begun .args .image .now in
     let f = found begun in
-    (begun .pre .1 .1 .2 ∙ ready begun .image .outputs ∙ sym (list-size s OUT (f .outs)), places-fit (size worked) (listed-places s (f .nets) OUT (f .outs)))
+    (begun .pre .1 .1 .2 ∙ ready begun .image .outputs ∙ sym (list-size s OUT (f .outs)), places-fit (size worked) (listed-places s refl OUT (f .outs)))
 
 clock-listed-requires : tie.Need-clock-listed-requires
 clock-listed-requires c κs =
@@ -51,7 +51,7 @@ clock-listed-requires c κs =
     let s = begun .args .image .now in
     let f = found begun in
     let r = ready begun in
-    ((check-none _ .1 (r .image), f .nets, size worked), (f .regs, r .state .size ∙ r .image .registers ∙ sym (list-size s REG (f .regs))))
+    ((check-none _ .1 (r .image), size worked), (f .regs, r .state .size ∙ r .image .registers ∙ sym (list-size s REG (f .regs))))
 
 returns : tie.Need-returns
 unfolding cycleOf
@@ -65,7 +65,7 @@ returns c =
     let f = found begun in
     let nets = worked .work-out-listed .last .1 .1 .1 .1 .1 .1 .0 in
     let done = worked .work-out-listed .ensures in
-    let outputs = taken .take-bytes .ensures ∙ ap (map (λ i. getD nets i 0)) (f .outs) ∙ outputs-listed s (f .nets) nets ∙ ap (λ bs. outputsFrom 0 (netsOf s) bs) (done .0) in
+    let outputs = taken .take-bytes .ensures ∙ ap (map (λ i. getD nets i 0)) (f .outs) ∙ outputs-listed s refl nets ∙ ap (λ bs. outputsFrom 0 (netsOf s) bs) (done .0) in
     (rw (done .0) at (judged .first-listed .ensures), (outputs, (rw (done .0) at (clocked .clock-listed .ensures), done .1)))
 
 pub listed-cycle-spec : {M : Type 1} → statement M

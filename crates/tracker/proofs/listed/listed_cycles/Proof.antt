@@ -23,9 +23,9 @@ use Rattle.tracker.proofs.listed.listed_cycles.Tie as tie
 -- the net bytes of a run: the first n are prepared
 record Nets (s : List ℕ) (n : ℕ) (nets : List ℕ) : Type 0 where
   size : length nets ≡ 8192
-  prepared : Prepared s n (take n nets) n
+  prepared : Prepared s (take n nets) (sizesOf s .nets)
 
-nets-back : {s : List ℕ} {n : ℕ} (ys nets : List ℕ) → length ys ≡ n → n ≤ length nets → length nets ≡ 8192 → Prepared s n ys n → Nets s n (ys ++ drop n nets)
+nets-back : {s : List ℕ} {n : ℕ} (ys nets : List ℕ) → length ys ≡ n → n ≤ length nets → length nets ≡ 8192 → Prepared s ys (sizesOf s .nets) → Nets s n (ys ++ drop n nets)
 nets-back {s} {n} ys nets e h l p =
     record {
       size = simp (length-append, length-drop) (omega arith);
@@ -95,7 +95,7 @@ loop-holds c =
     let all : args .k - 0 ≡ args .k = omega arith in (
       omega arith,
       rw all (run-begins (args .image .now) (args .state .now) (args .k) (args .rows .now) (args .outputs .now) (start .pre)),
-      nets-back (set .set-constants .last .1 .1 .0) _ (set .set-constants .kept .1 .1 .0 ∙ length-take-le _ _ (nets-few sized)) (nets-few sized) refl (set .set-constants .ensures),
+      nets-back (set .set-constants .last .1 .1 .0) _ (set .set-constants .kept .1 .1 .0 ∙ length-take-le _ _ (nets-few sized)) (nets-few sized) refl (rw (nets-are sized) at (set .set-constants .ensures)),
     )
 
 -- what stands at the head of the loop
@@ -152,10 +152,6 @@ part-listed-cycle-end-2 c =
     let sized = sized-at (turn-at .before) in
     rw (sized .sizes-of .ensures) (outputs-fit (turn turn-at))
 
--- the parts that were found have the number of nets
-parts-nets : (c : tie.At-loop Inv-loop μ-loop) → sized-at c .sizes-of .result .nets ≡ c .before .before .before .before .before .find-parts .result .nets
-parts-nets c = nets-are (sized-at c) ∙ sym (c .before .before .before .before .before .find-parts .ensures .nets)
-
 listed-cycle-requires : tie.Need-listed-cycle-requires Inv-loop μ-loop
 listed-cycle-requires c κs =
     let turn-at = c .before .before .before .before .before .before .before .before in
@@ -174,7 +170,7 @@ listed-cycle-requires c κs =
         rw e (step-none _ _ _ _ .1 (row-ready r, length-take-le _ _ (nets-there at) ∙ nets-are sized)),
         (
           found .find-parts .ensures,
-          rw (← parts-nets at) (at .loop .inv .2 .prepared),
+          at .loop .inv .2 .prepared,
           rw f (length-take-le _ _ (rw length-drop (omega (arith, outputs-fit r)))),
         ),
       ),
@@ -219,7 +215,7 @@ module _ (c : tie.After-listed-cycle Inv-loop μ-loop) where
       let at = turn-of .before in
       let n = sized-at at .sizes-of .result .nets in
       nets-back (c .listed-cycle .last .1 .1 .1 .1 .1 .1 .1 .1 .0) (at .loop .nets) (c .listed-cycle .kept .1 .1 .1 .1 .1 .1 .1 .1 .0 ∙ length-take-le n (at .loop .nets) (nets-there at))
-      (nets-there at) (at .loop .inv .2 .size) (rw (parts-nets at) (c .listed-cycle .ensures .1 .1 .1))
+      (nets-there at) (at .loop .inv .2 .size) (c .listed-cycle .ensures .1 .1 .1)
 
 add-c : tie.Need-add-c Inv-loop μ-loop
 add-c c = let turn-at = turn-of (c .before .before .before .before .before) in omega (arith, turn-at .loop-test .taken, run-none _ _ _ _ _ .0 (begun-at (turn-at .before) .pre) .1)

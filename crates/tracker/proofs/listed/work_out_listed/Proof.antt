@@ -2,7 +2,7 @@
 use Prim.Native.Nat.{ℕ, _-_, _≤_}
 use borrow.Author.Needs.{needs}
 use native.Mathlib.Omega.{arith}
-use mathlib.Core.Path.{_≡_, sym, _∙_}
+use mathlib.Core.Path.{_≡_, refl, sym, _∙_}
 use mathlib.Core.List.{List}
 use lib.ListN.{length, take, drop}
 use lib.Seq.{length-take-le}
@@ -12,6 +12,7 @@ use Rattle.netlist.proofs.Checked.{check-none}
 use Rattle.tracker.specs.Lists.{Found, Prepared, Places, Low}
 use Rattle.tracker.proofs.Calls.{Ready, step-none}
 use Rattle.tracker.proofs.Placing.{places-fit, listed-places}
+use Rattle.tracker.proofs.Gatewise.{settled-at}
 use Rattle.tracker.proofs.Cycling.{low-codes, put-size, put-low, settled-bytes, settled-prepared, list-size}
 use Rattle.tracker.proofs.listed.work_out_listed.Statement.{statement}
 use Rattle.tracker.proofs.listed.work_out_listed.Tie as tie
@@ -23,8 +24,8 @@ module _ (c : tie.Start) where
   found : Found (c .args .image .now) (c .args .p) (c .args .list .now)
   found = c .pre .1 .1 .0
 
-  size : length (c .args .nets .now) ≡ c .args .p .nets
-  size = step-none _ _ _ _ .0 (c .pre .1 .0) .1 ∙ sym (found .nets)
+  size : length (c .args .nets .now) ≡ sizesOf (c .args .image .now) .nets
+  size = step-none _ _ _ _ .0 (c .pre .1 .0) .1
 
 slice-aggregate-ins : tie.Need-slice-aggregate-ins
 slice-aggregate-ins c =
@@ -37,14 +38,14 @@ put-bytes-requires c κs =
     let s = start .args .image .now in
     let f = found start in
     let r = ready start in
-    (r .size ∙ r .image .inputs ∙ sym (list-size s INPUT (f .ins)), places-fit (size start) (listed-places s (f .nets) INPUT (f .ins)))
+    (r .size ∙ r .image .inputs ∙ sym (list-size s INPUT (f .ins)), places-fit (size start) (listed-places s refl INPUT (f .ins)))
 
 -- after the first
 module _ (c : tie.After-put-bytes) where
   abbrev start₁ : tie.Start
   start₁ = c .before .before .before .before .before .before .before .before .before
 
-  size₁ : length (c .put-bytes .last .1 .1 .0) ≡ start₁ .args .p .nets
+  size₁ : length (c .put-bytes .last .1 .1 .0) ≡ sizesOf (start₁ .args .image .now) .nets
   size₁ = c .put-bytes .ensures .size ∙ size start₁
 
 put-bytes-requires-2 : tie.Need-put-bytes-requires-2
@@ -54,7 +55,7 @@ put-bytes-requires-2 c κs =
     let s = start .args .image .now in
     let f = found start in
     let r = ready start in
-    (r .state .size ∙ r .image .registers ∙ sym (list-size s REG (f .regs)), places-fit (size₁ first) (listed-places s (f .nets) REG (f .regs)))
+    (r .state .size ∙ r .image .registers ∙ sym (list-size s REG (f .regs)), places-fit (size₁ first) (listed-places s refl REG (f .regs)))
 
 -- after the second
 module _ (c : tie.After-put-bytes2) where
@@ -64,21 +65,21 @@ module _ (c : tie.After-put-bytes2) where
   abbrev start₂ : tie.Start
   start₂ = start₁ first
 
-  size₂ : length (c .put-bytes2 .last .1 .1 .0) ≡ start₂ .args .p .nets
+  size₂ : length (c .put-bytes2 .last .1 .1 .0) ≡ sizesOf (start₂ .args .image .now) .nets
   size₂ = c .put-bytes2 .ensures .size ∙ size₁ first
 
   low₂ : Low (c .put-bytes2 .last .1 .1 .0)
   low₂ =
       let f = found start₂ in
       let r = ready start₂ in
-      put-low (r .image) (f .nets) (size start₂) (start₂ .pre .1 .1 .1) (f .ins) (f .regs) (first .put-bytes .ensures) (c .put-bytes2 .ensures) (low-codes (r .codes)) (low-codes (r .state .codes))
+      put-low (r .image) (size start₂) (start₂ .pre .1 .1 .1) (f .ins) (f .regs) (first .put-bytes .ensures) (c .put-bytes2 .ensures) (low-codes (r .codes)) (low-codes (r .state .codes))
 
 settle-nets-requires : tie.Need-settle-nets-requires
 settle-nets-requires c κs =
     let second = c .before .before .before in
     let start = start₂ second in
     let f = found start in
-    (start .pre .0, ((check-none _ .1 (ready start .image), f .nets, size₂ second, low₂ second), (f .from-upto, f .none-below)))
+    (start .pre .0, ((check-none _ .1 (ready start .image), f .nets, size₂ second ∙ sym (f .nets), low₂ second), (f .from-upto, f .none-below)))
 
 returns : tie.Need-returns
 returns c =
@@ -89,9 +90,9 @@ returns c =
     let r = ready start in
     let ins = first second .put-bytes .ensures in
     let regs = second .put-bytes2 .ensures in
-    let w = settled .settle-nets .ensures in (
-      settled-bytes (r .image) (f .nets) (size start) (start .pre .1 .1 .1) (f .ins) (f .regs) ins regs w,
-      settled-prepared (r .image) (f .nets) (size start) (start .pre .1 .1 .1) (f .ins) (f .regs) ins regs w,
+    let w = settled-at (f .nets) (settled .settle-nets .ensures) in (
+      settled-bytes (r .image) (size start) (start .pre .1 .1 .1) (f .ins) (f .regs) ins regs w,
+      settled-prepared (r .image) (size start) (start .pre .1 .1 .1) (f .ins) (f .regs) ins regs w,
     )
 
 pub work-out-listed-spec : {M : Type 1} → statement M

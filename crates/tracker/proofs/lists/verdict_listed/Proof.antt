@@ -2,12 +2,12 @@
 use Prim.Native.Nat.{_≤_, _<_, _-_, _+_}
 use borrow.Author.Needs.{needs}
 use native.Mathlib.Omega.{arith}
-use mathlib.Core.Path.{_≡_, sym, ap, _∙_}
+use mathlib.Core.Path.{_≡_, refl, sym, ap, _∙_}
 use mathlib.Core.Bool.{_&&_, cond}
 use lib.Dec.{eqb}
 use lib.ListN.{length, getD, drop}
 use Rattle.gates.specs.Kinds.{OUT}
-use Rattle.netlist.specs.Image.{netsOf}
+use Rattle.netlist.specs.Image.{sizesOf, netsOf}
 use Rattle.netlist.proofs.Checked.{Checked, check-none}
 use Rattle.tracker.specs.Cycle.{flow, verdictFrom}
 use Rattle.tracker.proofs.Placing.{verdictAt, verdict-next, verdict-done, verdict-listed, listed-places}
@@ -15,16 +15,16 @@ use Rattle.tracker.proofs.lists.verdict_listed.Statement.{statement}
 use Rattle.tracker.proofs.lists.verdict_listed.Tie as tie
 
 abbrev Inv-loop : tie.InvT-loop
-Inv-loop image n list nets j₀ j = (j ≤ length list) × (verdictFrom 0 (netsOf image) nets ≡ verdictAt image n (drop j list) nets)
+Inv-loop image list nets j₀ j = (j ≤ length list) × (verdictFrom 0 (netsOf image) nets ≡ verdictAt image (sizesOf image .nets) (drop j list) nets)
 
 abbrev μ-loop : tie.MeasureT-loop
-μ-loop image n list nets j₀ j = length list - j
+μ-loop image list nets j₀ j = length list - j
 
 loop-holds : tie.Need-loop-holds Inv-loop μ-loop
 loop-holds c =
     let start = c .before .before .before in
     let args = start .args in
-    (omega arith, sym (ap (λ l. verdictAt (args .image .now) (args .n) l (args .nets .now)) (start .pre .1) ∙ verdict-listed (args .image .now) (start .pre .0 .1) (args .nets .now)))
+    (omega arith, sym (ap (λ l. verdictAt (args .image .now) (sizesOf (args .image .now) .nets) l (args .nets .now)) (start .pre .1) ∙ verdict-listed (args .image .now) refl (args .nets .now)))
 
 -- an OUT that is listed
 module _ (c : tie.Else1 Inv-loop μ-loop) where
@@ -34,17 +34,17 @@ module _ (c : tie.Else1 Inv-loop μ-loop) where
   checked : Checked (start .args .image .now)
   checked = check-none _ .0 (start .pre .0 .0)
 
-  listed-below : getD (start .args .list .now) (c .before .loop .j) 0 < start .args .n
-  listed-below = listed-places (start .args .image .now) (start .pre .0 .1) OUT (start .pre .1) .below _ (c .if1 .left)
+  listed-below : getD (start .args .list .now) (c .before .loop .j) 0 < sizesOf (start .args .image .now) .nets
+  listed-below = listed-places (start .args .image .now) refl OUT (start .pre .1) .below _ (c .if1 .left)
 
 cast-i : tie.Need-cast-i Inv-loop μ-loop
 cast-i c = omega (arith, c .shared-slice-known4 .given (c .before .before .loop .j))
 
-operand-at-requires : tie.Need-operand-at-requires Inv-loop μ-loop
-operand-at-requires c κs = let turn = c .before in (listed-below turn, omega arith, rw (start turn .pre .0 .1) (checked turn .exact))
+operand-of-requires : tie.Need-operand-of-requires Inv-loop μ-loop
+operand-of-requires c κs = let turn = c .before in (listed-below turn, omega arith, checked turn .exact)
 
 shared-slice-read-marked : tie.Need-shared-slice-read-marked Inv-loop μ-loop
-shared-slice-read-marked c = let turn = c .before .before .before in rw (start turn .pre .0 .2) (listed-below turn)
+shared-slice-read-marked c = let turn = c .before .before .before in rw (start turn .pre .0 .1) (listed-below turn)
 
 -- the OUT at hand decides, or leaves the verdict to those after it
 left : (c : tie.After-marked Inv-loop μ-loop)
@@ -52,11 +52,11 @@ left : (c : tie.After-marked Inv-loop μ-loop)
     let args = start turn .args in
     let j = turn .before .loop .j in
     verdictFrom 0 (netsOf (args .image .now)) (args .nets .now)
-    ≡ cond (eqb (c .before .before .operand-at .result) 1 && c .marked .result) (flow (getD (args .list .now) j 0)) (verdictAt (args .image .now) (args .n) (drop (j + 1) (args .list .now)) (args .nets .now))
+    ≡ cond (eqb (c .before .before .operand-of .result) 1 && c .marked .result) (flow (getD (args .list .now) j 0)) (verdictAt (args .image .now) (sizesOf (args .image .now) .nets) (drop (j + 1) (args .list .now)) (args .nets .now))
 left c =
     let turn = c .before .before .before .before in
     let args = start turn .args in
-    rw (c .before .before .operand-at .ensures .0, c .marked .ensures) (turn .before .loop .inv .1 ∙ verdict-next (args .image .now) (args .n) (args .list .now) (args .nets .now) (turn .before .loop .j) (turn .if1 .left))
+    rw (c .before .before .operand-of .ensures .0, c .marked .ensures) (turn .before .loop .inv .1 ∙ verdict-next (args .image .now) (sizesOf (args .image .now) .nets) (args .list .now) (args .nets .now) (turn .before .loop .j) (turn .if1 .left))
 
 loop-again : tie.Need-loop-again Inv-loop μ-loop
 loop-again c = let below = c .before .before .before .before .before .if1 .left in (omega arith, rw (c .if2 .left) at (left (c .before)))
@@ -65,7 +65,7 @@ returns : tie.Need-returns Inv-loop μ-loop
 returns c =
     let at = c .before in
     let args = at .before .before .before .before .args in
-    sym (at .loop .inv .1 ∙ verdict-done (args .image .now) (args .n) (args .list .now) (args .nets .now) (at .loop .j) (c .if1 .taken))
+    sym (at .loop .inv .1 ∙ verdict-done (args .image .now) (sizesOf (args .image .now) .nets) (args .list .now) (args .nets .now) (at .loop .j) (c .if1 .taken))
 
 returns-2 : tie.Need-returns-2 Inv-loop μ-loop
 returns-2 c = sym (rw (c .if2 .taken) at (left (c .before)))
@@ -80,7 +80,7 @@ verdict-listed-spec =
     (λ c. search needs)
     (λ c. search needs)
     cast-i
-    operand-at-requires
+    operand-of-requires
     shared-slice-read-marked
     (λ c κs. search needs)
     (λ c. search needs)

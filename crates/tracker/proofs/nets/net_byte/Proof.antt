@@ -6,13 +6,13 @@ use lib.ListN.{length}
 use borrow.Author.Needs.{needs}
 use borrow.Author.Tests.{ne-eqb}
 use Rattle.gates.specs.Kinds.{CONST, INPUT, REG}
-use Rattle.netlist.specs.Image.{net, kindAt, operandAt}
+use Rattle.netlist.specs.Image.{sizesOf, net, kindAt, operandAt}
 use Rattle.tracker.proofs.Reading.{Gate, gate, in-range, code-at, gate-byte, input-byte, register-byte, const-byte, is-const-value}
 use Rattle.tracker.proofs.nets.net_byte.Statement.{statement}
 use Rattle.tracker.proofs.nets.net_byte.Tie as tie
 
 -- the function's entry, from where its kind and operand a are read
-abbrev start : tie.After-operand-at → tie.Start
+abbrev start : tie.After-operand-of → tie.Start
 start c = c .before .before .before .before .before .before
 
 -- A GATE OR OUT
@@ -22,25 +22,26 @@ is-gate c = rw (c .before .before .kind-of .ensures) at (c .if1 .taken)
 pins : (c : tie.Then1)
     → let args = start (c .before) .args in
     let s = args .image .now in
-    Gate (args .i) (net (kindAt s (args .i)) (operandAt s (args .n) (args .i) 0) (operandAt s (args .n) (args .i) 1) (operandAt s (args .n) (args .i) 2))
+    let n = sizesOf s .nets in
+    Gate (args .i) (net (kindAt s (args .i)) (operandAt s n (args .i) 0) (operandAt s n (args .i) 1) (operandAt s n (args .i) 2))
 pins c = gate (start (c .before) .pre .1) (is-gate c)
 
 shared-slice-read-gate-byte : tie.Need-shared-slice-read-gate-byte
 shared-slice-read-gate-byte c =
     let taken = c .before .before .before in
-    rw (taken .before .operand-at .ensures .0) (in-range (start (taken .before) .pre .1) (pins taken .a))
+    rw (taken .before .operand-of .ensures .0) (in-range (start (taken .before) .pre .1) (pins taken .a))
 
 shared-slice-read-gate-byte-2 : tie.Need-shared-slice-read-gate-byte-2
 shared-slice-read-gate-byte-2 c =
     let at = c .before .before .before in
     let taken = at .before in
-    rw (at .operand-at2 .ensures .0) (in-range (start (taken .before) .pre .1) (pins taken .b))
+    rw (at .operand-of2 .ensures .0) (in-range (start (taken .before) .pre .1) (pins taken .b))
 
 shared-slice-read-gate-byte-3 : tie.Need-shared-slice-read-gate-byte-3
 shared-slice-read-gate-byte-3 c =
     let at = c .before .before .before in
     let taken = at .before .before in
-    rw (at .operand-at3 .ensures .0) (in-range (start (taken .before) .pre .1) (pins taken .c))
+    rw (at .operand-of3 .ensures .0) (in-range (start (taken .before) .pre .1) (pins taken .c))
 
 gate-byte-requires : tie.Need-gate-byte-requires
 gate-byte-requires c κs =
@@ -48,7 +49,7 @@ gate-byte-requires c κs =
     let taken = at .before .before in
     let pre = start (taken .before) .pre in
     let g = pins taken in
-    rw (taken .before .before .kind-of .ensures, taken .before .operand-at .ensures .0, at .before .operand-at2 .ensures .0, at .operand-at3 .ensures .0)
+    rw (taken .before .before .kind-of .ensures, taken .before .operand-of .ensures .0, at .before .operand-of2 .ensures .0, at .operand-of3 .ensures .0)
     (pre .0, (g .kind, (code-at (pre .1) (g .a), code-at (pre .1) (g .b), code-at (pre .1) (g .c))))
 
 returns : tie.Need-returns
@@ -56,7 +57,7 @@ returns c =
     let at = c .before .before .before .before in
     let taken = at .before .before in
     let pre = start (taken .before) .pre in
-    let byte = rw (taken .before .before .kind-of .ensures, taken .before .operand-at .ensures .0, at .before .operand-at2 .ensures .0, at .operand-at3 .ensures .0) at (c .gate-byte .ensures) in
+    let byte = rw (taken .before .before .kind-of .ensures, taken .before .operand-of .ensures .0, at .before .operand-of2 .ensures .0, at .operand-of3 .ensures .0) at (c .gate-byte .ensures) in
     let args = start (taken .before) .args in
     let k = kindAt (args .image .now) (args .i) in
     let gates : 3 ≤ k = is-gate taken in (
@@ -96,22 +97,22 @@ returns-3 c =
 
 is-const : (c : tie.Else3)
     → let args = start (c .before .before .before) .args in
-    (kindAt (args .image .now) (args .i) ≡ CONST) × (operandAt (args .image .now) (args .n) (args .i) 0 ≤ 1)
+    (kindAt (args .image .now) (args .i) ≡ CONST) × (operandAt (args .image .now) (sizesOf (args .image .now) .nets) (args .i) 0 ≤ 1)
 is-const c =
     let source = c .before .before in
     let pre = start (source .before) .pre in
     let kind = source .before .before .kind-of .ensures in
     is-const-value (pre .1) (rw kind at (source .if1 .left)) (rw kind at (c .before .if2 .left)) (rw kind at (c .if3 .left))
 
-cast-t28 : tie.Need-cast-t28
-cast-t28 c = let small = is-const c .1 in rw (c .before .before .before .operand-at .ensures .0) (omega arith)
+cast-byte : tie.Need-cast-byte
+cast-byte c = let small = is-const c .1 in rw (c .before .before .before .operand-of .ensures .0) (omega arith)
 
 returns-4 : tie.Need-returns-4
 returns-4 c =
     let read = c .before .before .before in
     let pre = start read .pre in
     let e = is-const c .0 in
-    (read .operand-at .ensures .0 ∙ sym (const-byte (pre .1) e), (rw e (omega arith), rw e (omega arith)))
+    (read .operand-of .ensures .0 ∙ sym (const-byte (pre .1) e), (rw e (omega arith), rw e (omega arith)))
 
 pub net-byte-spec : {M : Type 1} → statement M
 net-byte-spec =
@@ -132,5 +133,5 @@ net-byte-spec =
     (λ c. register-there (c .before))
     (λ c. omega (arith, register-there (c .before)))
     returns-3
-    cast-t28
+    cast-byte
     returns-4)

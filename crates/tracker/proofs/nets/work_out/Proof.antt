@@ -51,12 +51,14 @@ net-byte-requires c κs =
     let start = at .before .before .before .before .before .before in
     let walked = at .loop .inv in
     let below = c .before .loop-test .taken in
-    (start .pre .0, ((below, rw (start .pre .1 .1) (ready start .image .exact), walked .size), walk-readable walked below))
+    let e = start .pre .1 .1 in
+    (start .pre .0, ((rw (← e) below, ready start .image .exact, walked .size ∙ e), rw (← e) (walk-readable walked below)))
 
 loop-again : tie.Need-loop-again Inv-loop μ-loop
 loop-again c =
     let at = c .before .before .before in
-    let x = c .net-byte .ensures in
+    let start = at .before .before .before .before .before .before in
+    let x = rw (← start .pre .1 .1) at (c .net-byte .ensures) in
     rw (add-one (at .loop .i)) (walk-goes-on (at .loop .inv) (c .before .before .loop-test .taken) _ _ _ (x .0) (x .1 .0) (x .1 .1))
 
 same-length : tie.Need-same-length Inv-loop μ-loop

@@ -12,7 +12,7 @@ use Rattle.tracker.proofs.settling.set_constants.Statement.{statement}
 use Rattle.tracker.proofs.settling.set_constants.Tie as tie
 
 abbrev Inv-loop : tie.InvT-loop
-Inv-loop image n nets₀ i₀ nets i = (i ≤ n) × (length nets ≡ n) × Prepared image n nets i
+Inv-loop image n nets₀ i₀ nets i = (i ≤ n) × (length nets ≡ n) × Prepared image nets i
 
 abbrev μ-loop : tie.MeasureT-loop
 μ-loop image n nets₀ i₀ nets i = n - i
@@ -26,11 +26,11 @@ loop-holds c = (omega arith, c .before .before .pre .2, prepare-begins)
 kind-of-requires : tie.Need-kind-of-requires Inv-loop μ-loop
 kind-of-requires c κs = let start = c .before .before .before .before in omega (arith, checked start .exact, start .pre .1, c .loop-test .taken)
 
-operand-at-requires : tie.Need-operand-at-requires Inv-loop μ-loop
-operand-at-requires c κs =
+operand-of-requires : tie.Need-operand-of-requires Inv-loop μ-loop
+operand-of-requires c κs =
     let turn = c .before in
     let start = turn .before .before .before .before in
-    (turn .loop-test .taken, omega arith, rw (start .pre .1) (checked start .exact))
+    (rw (← start .pre .1) (turn .loop-test .taken), omega arith, checked start .exact)
 
 slice-write-nets : tie.Need-slice-write-nets Inv-loop μ-loop
 slice-write-nets c = let turn = c .before .before .before in omega (arith, turn .before .loop .inv .1, turn .loop-test .taken)
@@ -45,8 +45,8 @@ loop-again c =
     let below = turn .loop-test .taken in (
       omega arith,
       length-set (at .loop .nets) (at .loop .i) (c .first-byte .result) ∙ at .loop .inv .1,
-      rw (c .first-byte .ensures, kind .kind-of .ensures, read .operand-at .ensures .0, add-one (at .loop .i))
-          (prepare-goes-on (checked start) (start .pre .1) below (at .loop .inv .1) (at .loop .inv .2)),
+      rw (c .first-byte .ensures, kind .kind-of .ensures, read .operand-of .ensures .0, add-one (at .loop .i))
+          (prepare-goes-on (checked start) (rw (← start .pre .1) below) (at .loop .inv .1 ∙ start .pre .1) (at .loop .inv .2)),
     )
 
 pub set-constants-spec : {M : Type 1} → statement M
@@ -57,7 +57,7 @@ set-constants-spec =
     μ-loop
     loop-holds
     kind-of-requires
-    operand-at-requires
+    operand-of-requires
     (λ c κs. search needs)
     slice-write-nets
     (λ c. search needs)

@@ -1,11 +1,11 @@
 -- `tracker::settling::settle` meets its contract: a gate or OUT takes the code of the table, and another net keeps its byte.
-use Prim.Native.Nat.{_+_, _*_, _≤_, _<_}
+use Prim.Native.Nat.{ℕ, _+_, _*_, _≤_, _<_}
 use borrow.Author.Needs.{needs}
 use borrow.Author.Tests.{le-leb, lt-leb}
 use native.Mathlib.Omega.{arith}
-use mathlib.Core.Path.{_≡_, sym, _∙_}
+use mathlib.Core.Path.{_≡_, refl, sym, _∙_}
 use lib.ListN.{length}
-use Rattle.netlist.specs.Image.{net, kindAt, operandAt}
+use Rattle.netlist.specs.Image.{sizesOf, net, kindAt, operandAt}
 use Rattle.netlist.proofs.Checked.{Checked, check-none}
 use Rattle.tracker.specs.Cycle.{pinByte}
 use Rattle.tracker.specs.Lists.{ruleAt, settledAt}
@@ -16,11 +16,12 @@ use Rattle.tracker.proofs.settling.settle.Tie as tie
 checked : (c : tie.Start) → Checked (c .args .image .now)
 checked c = check-none _ .0 (c .pre .1 .0)
 
-exact : (c : tie.Start) → length (c .args .image .now) ≡ 8 + 7 * c .args .n
-exact c = rw (c .pre .1 .1) (checked c .exact)
+-- N
+abbrev n : tie.Start → ℕ
+n c = sizesOf (c .args .image .now) .nets
 
 kind-of-requires : tie.Need-kind-of-requires
-kind-of-requires c κs = let start = c .before .before in omega (arith, exact start, start .pre .1 .2)
+kind-of-requires c κs = let start = c .before .before in omega (arith, checked start .exact, start .pre .1 .1)
 
 -- the function's entry, from where its kind is read
 abbrev start : tie.After-kind-of → tie.Start
@@ -30,37 +31,38 @@ is-gate : (c : tie.Then1) → let args = start (c .before) .args in 3 ≤ kindAt
 is-gate c = rw (c .before .kind-of .ensures) at (c .if1 .taken)
 
 pins : (c : tie.Then1)
-    → let args = start (c .before) .args in
-    let s = args .image .now in
-    Pins (args .n) (net (kindAt s (args .i)) (operandAt s (args .n) (args .i) 0) (operandAt s (args .n) (args .i) 1) (operandAt s (args .n) (args .i) 2))
-pins c = let at = start (c .before) in pins-there (checked at) (at .pre .1 .1) _ (at .pre .1 .2) (is-gate c)
+    → let at = start (c .before) in
+    let s = at .args .image .now in
+    let i = at .args .i in
+    Pins (n at) (net (kindAt s i) (operandAt s (n at) i 0) (operandAt s (n at) i 1) (operandAt s (n at) i 2))
+pins c = let at = start (c .before) in pins-there (checked at) _ (at .pre .1 .1) (is-gate c)
 
-reads : (c : tie.Start) → (k : _) → k < 3 → (c .args .i < c .args .n) × (k < 3) × (length (c .args .image .now) ≡ 8 + 7 * c .args .n)
-reads c k h = (c .pre .1 .2, h, exact c)
+reads : (c : tie.Start) → (k : _) → k < 3 → (c .args .i < n c) × (k < 3) × (length (c .args .image .now) ≡ 8 + 7 * n c)
+reads c k h = (c .pre .1 .1, h, checked c .exact)
 
 slice-read-gate-byte : tie.Need-slice-read-gate-byte
 slice-read-gate-byte c =
     let read = c .before .before .before in
     let taken = read .before in
-    rw (read .operand-at .ensures .0, start (taken .before) .pre .1 .3) (pins taken .a)
+    rw (read .operand-of .ensures .0, start (taken .before) .pre .1 .2) (pins taken .a)
 
 slice-read-gate-byte-2 : tie.Need-slice-read-gate-byte-2
 slice-read-gate-byte-2 c =
     let read = c .before .before .before in
     let taken = read .before .before in
-    rw (read .operand-at2 .ensures .0, start (taken .before) .pre .1 .3) (pins taken .b)
+    rw (read .operand-of2 .ensures .0, start (taken .before) .pre .1 .2) (pins taken .b)
 
 slice-read-gate-byte-3 : tie.Need-slice-read-gate-byte-3
 slice-read-gate-byte-3 c =
     let read = c .before .before .before in
     let taken = read .before .before .before in
-    rw (read .operand-at3 .ensures .0, start (taken .before) .pre .1 .3) (pins taken .c)
+    rw (read .operand-of3 .ensures .0, start (taken .before) .pre .1 .2) (pins taken .c)
 
 gate-byte-requires : tie.Need-gate-byte-requires
 gate-byte-requires c κs =
     let taken = c .before .before .before .before .before .before in
     let pre = start (taken .before) .pre in
-    (pre .0, (rw (taken .before .kind-of .ensures) (pins taken .kind), (pre .1 .4 .low _, pre .1 .4 .low _, pre .1 .4 .low _)))
+    (pre .0, (rw (taken .before .kind-of .ensures) (pins taken .kind), (pre .1 .3 .low _, pre .1 .3 .low _, pre .1 .3 .low _)))
 
 returns : tie.Need-returns
 unfolding settledAt ruleAt pinByte
@@ -71,7 +73,7 @@ returns c =
     let taken = first .before in
     let kind = taken .before .kind-of .ensures in
     let args = start (taken .before) .args in
-    rw (c .gate-byte .ensures, kind, first .operand-at .ensures .0, second .operand-at2 .ensures .0, third .operand-at3 .ensures .0, le-leb 3 (kindAt (args .image .now) (args .i)) (is-gate taken))
+    rw (c .gate-byte .ensures, kind, first .operand-of .ensures .0, second .operand-of2 .ensures .0, third .operand-of3 .ensures .0, le-leb 3 (kindAt (args .image .now) (args .i)) (is-gate taken))
 
 returns-2 : tie.Need-returns-2
 unfolding settledAt
