@@ -13,9 +13,7 @@ use Rattle.netlist.specs.declared.image.Net.{Net}
 use Rattle.netlist.specs.Image.{sizesOf, kindAt, netAt, netsOf, count}
 use Rattle.netlist.proofs.Nets.{netsLeft, nets-next, nets-done, nets-left}
 use Rattle.netlist.proofs.Checked.{Checked}
-use Rattle.tracker.specs.Passes.{NoneBelow}
 use Rattle.tracker.proofs.Selections.{Selection, selection-length}
-use Rattle.tracker.proofs.Skipping.{selection-from}
 
 -- of the whole, the first j bytes stand in the buffer, and the rest is left
 pub record Filled (whole buffer : List ℕ) (j : ℕ) (left : List ℕ) : Type 0 where
@@ -58,16 +56,15 @@ pub record Pass {k : ℕ} {list : ℕ → List Net → List ℕ} {byte : ℕ →
   pub bytes : Filled (list 0 (netsOf s)) buffer j (list i (netsLeft s n i))
   pub size : length buffer ≡ length lent
 
--- it may start at any net below which there is none of the kind
+-- from net 0 on
 pub pass-begins : {k : ℕ} {list : ℕ → List Net → List ℕ} {byte : ℕ → Net → ℕ} (selection : Selection k list byte)
-    {s : List ℕ} {n : ℕ} {lent : List ℕ} {from : ℕ} → Checked s → n ≡ sizesOf s .nets → length lent ≡ count k (netsOf s) → from ≤ n → NoneBelow k s from
-    → Pass selection s n lent lent 0 from
-pass-begins selection {s} {n} image e size h none =
+    {s : List ℕ} {n : ℕ} {lent : List ℕ} → Checked s → n ≡ sizesOf s .nets → length lent ≡ count k (netsOf s) → Pass selection s n lent lent 0 0
+pass-begins {list = list} selection {s} {n} image e size =
     record {
       count-is = e;
       exact = rw e (image .exact);
-      upto = h;
-      bytes = fill-begins (rw (← nets-left s n e) (selection-from s n _ h selection none)) (selection-length selection 0 (netsOf s) ∙ sym size);
+      upto = omega arith;
+      bytes = fill-begins (ap (list 0) (sym (nets-left s n e))) (selection-length selection 0 (netsOf s) ∙ sym size);
       size = refl;
     }
 

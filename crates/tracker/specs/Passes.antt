@@ -9,10 +9,6 @@ use Rattle.netlist.specs.Image.{kindAt, netAt}
 use Rattle.netlist.specs.Check.{netRefusal}
 use Rattle.tracker.specs.Cycle.{Walk}
 
--- no net below `from` is of kind k
-abbrev pub NoneBelow : (k : ℕ) (s : List ℕ) (from : ℕ) → Type 0
-NoneBelow k s from = (i : ℕ) → i < from → kindAt s i ≡ k → ⊥
-
 -- a cycle's walk at net i: the bytes of the nets below it, and the row and state bytes that no net has taken yet
 abbrev pub walkAt : (row state nets : List ℕ) (i inputs registers : ℕ) → Walk
 walkAt row state nets i inputs registers = record { bytes = take i nets; row = drop inputs row; state = drop registers state }

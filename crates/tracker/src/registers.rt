@@ -4,14 +4,12 @@ use netlist::kind_of;
 use netlist::operand_of;
 ghost use mathlib.Core.Path.{_≡_};
 ghost use mathlib.Core.Option.{none};
-ghost use Prim.Native.Nat.{_≤_};
 ghost use lib.ListN.{length};
 ghost use Rattle.gates.specs.Kinds.{REG};
 ghost use Rattle.netlist.specs.Image.{sizesOf, netsOf};
 ghost use Rattle.netlist.specs.Check.{checkRefusal};
 ghost use Rattle.tracker.specs.Cycle.{clocked};
 ghost use Rattle.tracker.specs.Calls.{start, starts};
-ghost use Rattle.tracker.specs.Passes.{NoneBelow};
 
 // The byte that a register powers up with, by its operand b.
 fn start_byte(b: usize) -> u8
@@ -40,15 +38,14 @@ pub fn take_starts(image: &[u8], n: usize, state: &mut [u8])
     }
 }
 
-// The clock: every register takes the byte of its net, all together. No REG stands below net `from`.
-pub fn clock(image: &[u8], n: usize, from: usize, nets: &[u8], state: &mut [u8])
+// The clock: every register takes the byte of its net, all together.
+pub fn clock(image: &[u8], n: usize, nets: &[u8], state: &mut [u8])
     requires { ⌜ checkRefusal (now image) ≡ none ⌝ }
     requires { ⌜ (n ≡ sizesOf (now image) .nets) × (length (now nets) ≡ n) × (length (now state) ≡ sizesOf (now image) .registers) ⌝ }
-    requires { ⌜ (from ≤ n) × NoneBelow REG (now image) from ⌝ }
     ensures { λ r. ⌜ now (state .exit) ≡ clocked (netsOf (now (image .entry))) (now (nets .entry)) ⌝ }
 {
     let mut j: usize = 0;
-    let mut i = from;
+    let mut i: usize = 0;
     while i < n {
         if kind_of(image, i) == REG {
             let a = operand_of(image, i, 0);

@@ -23,7 +23,7 @@ pub fn step(image: &[u8], state: &mut [u8], row: &[u8], nets: &mut [u8]) -> Step
     let z = sizes_of(image);
     let t = table();
     work_out(image, z.nets, &t, row, state, nets);
-    let verdict = verdict_of(image, z.nets, 0, nets);
-    clock(image, z.nets, 0, nets, state);
+    let verdict = verdict_of(image, z.nets, nets);
+    clock(image, z.nets, nets, state);
     StepAnswer::Done(verdict)
 }

@@ -16,7 +16,6 @@ ghost use Rattle.netlist.specs.Image.{sizesOf, kindAt, operandAt, netsOf};
 ghost use Rattle.netlist.specs.Check.{checkRefusal};
 ghost use Rattle.tracker.specs.Answers.{verdictIn};
 ghost use Rattle.tracker.specs.Cycle.{verdictFrom};
-ghost use Rattle.tracker.specs.Passes.{NoneBelow};
 
 // Whether net i is a protected OUT with mark 1.
 fn flows(image: &[u8], i: usize, nets: &[u8]) -> bool
@@ -29,14 +28,13 @@ fn flows(image: &[u8], i: usize, nets: &[u8]) -> bool
     (operand_of(image, i, 1) == 1) & marked(nets[i])
 }
 
-// A flow at the lowest-numbered protected OUT with mark 1, or clear. No OUT stands below net `from`.
-pub fn verdict_of(image: &[u8], n: usize, from: usize, nets: &[u8]) -> Verdict
+// A flow at the lowest-numbered protected OUT with mark 1, or clear.
+pub fn verdict_of(image: &[u8], n: usize, nets: &[u8]) -> Verdict
     requires { ⌜ checkRefusal (now image) ≡ none ⌝ }
     requires { ⌜ (n ≡ sizesOf (now image) .nets) × (length (now nets) ≡ n) ⌝ }
-    requires { ⌜ (from ≤ n) × NoneBelow OUT (now image) from ⌝ }
     ensures { λ r. ⌜ verdictIn r ≡ verdictFrom 0 (netsOf (now (image .entry))) (now (nets .entry)) ⌝ }
 {
-    let mut i = from;
+    let mut i: usize = 0;
     loop {
         if n <= i {
             break Verdict::Clear;

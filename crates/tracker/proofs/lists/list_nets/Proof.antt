@@ -23,7 +23,7 @@ checked c = check-none _ .0 (c .pre .0)
 loop-holds : tie.Need-loop-holds Inv-loop μ-loop
 loop-holds c =
     let start = c .before .before in
-    pass-begins _ (checked start) refl (start .pre .1) (omega arith) (λ i h. absurd (omega arith))
+    pass-begins _ (checked start) refl (start .pre .1)
 
 -- a net is there
 below : (c : tie.In-loop Inv-loop μ-loop) → c .before .loop .i < sizesOf (c .before .before .before .before .args .image .now) .nets

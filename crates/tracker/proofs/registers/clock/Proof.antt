@@ -16,10 +16,10 @@ use Rattle.tracker.proofs.registers.clock.Statement.{statement}
 use Rattle.tracker.proofs.registers.clock.Tie as tie
 
 abbrev Inv-loop : tie.InvT-loop
-Inv-loop image n from nets state₀ j₀ i₀ state j i = Pass (registers-selected (λ x. pinByte nets (x .a))) image n state₀ state j i
+Inv-loop image n nets state₀ j₀ i₀ state j i = Pass (registers-selected (λ x. pinByte nets (x .a))) image n state₀ state j i
 
 abbrev μ-loop : tie.MeasureT-loop
-μ-loop image n from nets state₀ j₀ i₀ state j i = n - i
+μ-loop image n nets state₀ j₀ i₀ state j i = n - i
 
 checked : (c : tie.Start Inv-loop μ-loop) → Checked (c .args .image .now)
 checked c = check-none _ .0 (c .pre .0)
@@ -27,9 +27,8 @@ checked c = check-none _ .0 (c .pre .0)
 loop-holds : tie.Need-loop-holds Inv-loop μ-loop
 loop-holds c =
     let start = c .before .before .before in
-    let size = start .pre .1 .0 in
-    let from = start .pre .1 .1 in
-    pass-begins _ (checked start) (size .0) (size .2 ∙ checked start .registers) (from .0) (from .1)
+    let size = start .pre .1 in
+    pass-begins _ (checked start) (size .0) (size .2 ∙ checked start .registers)
 
 is-register : (c : tie.Then1 Inv-loop μ-loop)
     → let at = c .before .before .before in
@@ -41,7 +40,7 @@ shared-slice-read-state c =
     let read = c .before in
     let turn = read .before .before .before in
     let start = turn .before .before .before .before .before in
-    let size = start .pre .1 .0 in
+    let size = start .pre .1 in
     rw (read .operand-of .ensures .0, ← size .0, size .1) (pin-below (checked start) (size .0) _ (turn .loop-test .taken) (is-register (read .before)))
 
 -- a register has a byte in the state

@@ -25,7 +25,7 @@ loop-holds c =
     let begin = c .before .before in
     let size = begin .pre .1 in
     let image = check-none _ .0 (begin .pre .0) in
-    pass-begins _ image (size .0) (size .1 ∙ image .registers) (omega arith) (λ i h. absurd (omega arith))
+    pass-begins _ image (size .0) (size .1 ∙ image .registers)
 
 is-register : (c : tie.Then1 Inv-loop μ-loop)
     → let at = c .before .before .before in

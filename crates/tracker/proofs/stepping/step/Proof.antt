@@ -54,14 +54,14 @@ verdict-of-requires : tie.Need-verdict-of-requires
 verdict-of-requires c κs =
     let worked = c .before .before .before in
     let sized = worked .before .before .before .before .before in
-    (check-none _ .1 (ready (sized .before) .image), ((nets-are sized, nets-size worked), (omega arith, λ i h. absurd (omega arith))))
+    (check-none _ .1 (ready (sized .before) .image), (nets-are sized, nets-size worked))
 
 clock-requires : tie.Need-clock-requires
 clock-requires c κs =
     let worked = c .before .before .before .before .before .before in
     let sized = worked .before .before .before .before .before in
     let r = ready (sized .before) in
-    (check-none _ .1 (r .image), ((nets-are sized, nets-size worked, r .state .size), (omega arith, λ i h. absurd (omega arith))))
+    (check-none _ .1 (r .image), (nets-are sized, nets-size worked, r .state .size))
 
 returns-2 : tie.Need-returns-2
 unfolding cycleOf asStep

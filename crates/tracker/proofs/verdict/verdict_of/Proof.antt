@@ -1,6 +1,6 @@
 -- `tracker::verdict::verdict_of` meets its contract. At net i, the verdict is that of the nets that are left.
 use Prim.Native.Nat.{ℕ, _+_, _-_, _≤_, _<_}
-use mathlib.Core.Path.{_≡_, refl, sym, _∙_}
+use mathlib.Core.Path.{_≡_, refl, sym, ap, _∙_}
 use mathlib.Core.List.{List, []}
 use mathlib.Core.Bool.{_&&_, cond}
 use native.Mathlib.Numerals.{add-one}
@@ -14,15 +14,14 @@ use Rattle.netlist.specs.Image.{kindAt, operandAt, netAt, netsOf}
 use Rattle.netlist.proofs.Nets.{netsLeft, nets-next, nets-done, nets-left}
 use Rattle.netlist.proofs.Checked.{check-none}
 use Rattle.tracker.specs.Cycle.{clear, flow, verdictFrom}
-use Rattle.tracker.proofs.Skipping.{verdict-from}
 use Rattle.tracker.proofs.verdict.verdict_of.Statement.{statement}
 use Rattle.tracker.proofs.verdict.verdict_of.Tie as tie
 
 abbrev Inv-loop : tie.InvT-loop
-Inv-loop image n from nets i₀ i = (i ≤ n) × (verdictFrom 0 (netsOf image) nets ≡ verdictFrom i (netsLeft image n i) nets)
+Inv-loop image n nets i₀ i = (i ≤ n) × (verdictFrom 0 (netsOf image) nets ≡ verdictFrom i (netsLeft image n i) nets)
 
 abbrev μ-loop : tie.MeasureT-loop
-μ-loop image n from nets i₀ i = n - i
+μ-loop image n nets i₀ i = n - i
 
 loop-holds : tie.Need-loop-holds Inv-loop μ-loop
 loop-holds c =
@@ -30,12 +29,12 @@ loop-holds c =
     let pre = start .pre in
     let s = start .args .image .now in
     let bs = start .args .nets .now in
-    (omega (arith, pre .1 .1 .0), rw (← nets-left s _ (pre .1 .0 .0)) (verdict-from s _ _ (pre .1 .1 .0) bs (pre .1 .1 .1)))
+    (omega arith, ap (λ xs. verdictFrom 0 xs bs) (sym (nets-left s _ (pre .1 .0))))
 
 flows-requires : tie.Need-flows-requires Inv-loop μ-loop
 flows-requires c κs =
     let pre = c .before .before .before .before .pre in
-    let size = pre .1 .0 in
+    let size = pre .1 in
     (rw (← size .0) (c .if1 .left), check-none _ .0 (pre .0) .exact, rw (size .1) (c .if1 .left))
 
 -- the net at hand decides, or leaves the verdict to the nets above
@@ -56,7 +55,7 @@ left c =
     let at = c .before .before in
     let start = at .before .before .before in
     let args = start .args in
-    rw (c .flows .ensures, ← start .pre .1 .0 .0) (at .loop .inv .1 ∙ this-net (args .image .now) (args .n) (at .loop .i) (args .nets .now) (c .before .if1 .left))
+    rw (c .flows .ensures, ← start .pre .1 .0) (at .loop .inv .1 ∙ this-net (args .image .now) (args .n) (at .loop .i) (args .nets .now) (c .before .if1 .left))
 
 loop-again : tie.Need-loop-again Inv-loop μ-loop
 loop-again c = (omega arith, rw (c .if2 .left) at (left (c .before)))
