@@ -60,10 +60,9 @@ pub record Prepared (s nets : List ℕ) (i : ℕ) : Type 0 where
   pub constants : (j : ℕ) → j < i → kindAt s j ≡ CONST → getD nets j 0 ≡ operandAt s (sizesOf s .nets) j 0
   pub codes : (j : ℕ) → j < i → getD nets j 0 < 4
 
--- what a run finds out once about an image: N, the first net that may be a gate or OUT, and the lists of the INPUTs, the REGs and the OUTs, one after the other
+-- what a run finds out once about an image: the first net that may be a gate or OUT, and the lists of the INPUTs, the REGs and the OUTs, one after the other
 pub record Found (s : List ℕ) (p : Parts) (list : List ℕ) : Type 0 where
-  pub nets : p .nets ≡ sizesOf s .nets
-  pub from-upto : p .from ≤ p .nets
+  pub from-upto : p .from ≤ sizesOf s .nets
   pub none-below : (i : ℕ) → i < p .from → kindAt s i < NOT
   pub in-order : (p .regs ≤ p .outs) × (p .outs ≤ p .end) × (p .end ≤ length list)
   pub ins : take (p .regs) list ≡ placesFrom INPUT 0 (netsOf s)

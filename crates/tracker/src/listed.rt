@@ -43,10 +43,9 @@ fn list_kinds(image: &[u8], regs: usize, outs: usize, end: usize, list: &mut [u1
     list_nets(image, OUT, &mut list[outs..end]);
 }
 
-// What a run finds out once: the number of nets, the first that may be a gate or OUT, and where the lists of the REGs and of the OUTs
-// begin and end, after that of the INPUTs.
+// What a run finds out once: the first net that may be a gate or OUT, and where the lists of the REGs and of the OUTs begin and end, after
+// that of the INPUTs.
 pub struct Parts {
-    pub nets: usize,
     pub from: usize,
     pub regs: usize,
     pub outs: usize,
@@ -63,7 +62,6 @@ fn find_parts(image: &[u8], list: &mut [u16]) -> Parts
     let end = outs + z.outputs;
     list_kinds(image, z.inputs, outs, end, list);
     Parts {
-        nets: z.nets,
         from: lowest_gate(image, z.nets),
         regs: z.inputs,
         outs,
@@ -115,7 +113,7 @@ fn work_out_listed(
     let regs = &list[regs_at..outs_at];
     put_bytes(ins, row, nets);
     put_bytes(regs, state, nets);
-    settle_nets(image, p.nets, t, p.from, nets);
+    settle_nets(image, t, p.from, nets);
 }
 
 // Cycle c of a run: all nets are worked out, then the verdict is given, unless an earlier cycle had a flow; the outputs are written, and

@@ -4,6 +4,7 @@ use gates::NOT;
 use gates::gate_byte;
 use netlist::kind_of;
 use netlist::operand_of;
+use netlist::sizes_of;
 ghost use mathlib.Core.Path.{_≡_};
 ghost use mathlib.Core.Option.{none};
 ghost use mathlib.Core.Bool.{cond};
@@ -85,13 +86,16 @@ fn settle_fours(image: &[u8], n: usize, t: &[u8; 576], from: usize, nets: &mut [
     i
 }
 
-// All nets from `from` on. There is no gate and no OUT below it.
-pub fn settle_nets(image: &[u8], n: usize, t: &[u8; 576], from: usize, nets: &mut [u8])
+// All nets from `from` on. There is no gate and no OUT below it. N is read here, ahead of the first store to the nets, so that the compiler
+// has it at hand for every operand that is read through the view.
+pub fn settle_nets(image: &[u8], t: &[u8; 576], from: usize, nets: &mut [u8])
     requires { ⌜ GateTable (now t) ⌝ }
-    requires { ⌜ (checkRefusal (now image) ≡ none) × (n ≡ sizesOf (now image) .nets) × (length (now nets) ≡ n) × Low (now nets) ⌝ }
-    requires { ⌜ (from ≤ n) × ((i : ℕ) → i < from → kindAt (now image) i < NOT) ⌝ }
-    ensures { λ r. ⌜ Settled (now (image .entry)) (now (nets .entry)) (now (nets .exit)) n ⌝ }
+    requires { ⌜ (checkRefusal (now image) ≡ none) × (length (now nets) ≡ sizesOf (now image) .nets) × Low (now nets) ⌝ }
+    requires { ⌜ (from ≤ sizesOf (now image) .nets) × ((i : ℕ) → i < from → kindAt (now image) i < NOT) ⌝ }
+    ensures { λ r. ⌜ Settled (now (image .entry)) (now (nets .entry)) (now (nets .exit)) (sizesOf (now (image .entry)) .nets) ⌝ }
 {
+    let z = sizes_of(image);
+    let n = z.nets;
     let mut i = settle_fours(image, n, t, from, nets);
     while i < n {
         settle(image, t, i, nets);

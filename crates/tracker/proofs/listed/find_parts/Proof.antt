@@ -56,8 +56,7 @@ returns c =
     let z = sized .sizes-of .result in
     let lists = filled .list-kinds .ensures in
     record {
-      nets = ap (λ (z : Sizes). z .nets) (sized .sizes-of .ensures);
-      from-upto = c .lowest-gate .ensures .0;
+      from-upto = rw (sized .sizes-of .ensures) at (c .lowest-gate .ensures .0);
       none-below = c .lowest-gate .ensures .1;
       in-order = (omega arith, omega arith, omega (arith, few sized, filled .list-kinds .kept .1 .1 .1 .1 .0, start .pre .1));
       ins = lists .0;

@@ -12,7 +12,6 @@ use Rattle.netlist.proofs.Checked.{check-none}
 use Rattle.tracker.specs.Lists.{Found, Prepared, Places, Low}
 use Rattle.tracker.proofs.Calls.{Ready, step-none}
 use Rattle.tracker.proofs.Placing.{places-fit, listed-places}
-use Rattle.tracker.proofs.Gatewise.{settled-at}
 use Rattle.tracker.proofs.Cycling.{low-codes, put-size, put-low, settled-bytes, settled-prepared, list-size}
 use Rattle.tracker.proofs.listed.work_out_listed.Statement.{statement}
 use Rattle.tracker.proofs.listed.work_out_listed.Tie as tie
@@ -79,7 +78,7 @@ settle-nets-requires c κs =
     let second = c .before .before .before in
     let start = start₂ second in
     let f = found start in
-    (start .pre .0, ((check-none _ .1 (ready start .image), f .nets, size₂ second ∙ sym (f .nets), low₂ second), (f .from-upto, f .none-below)))
+    (start .pre .0, ((check-none _ .1 (ready start .image), size₂ second, low₂ second), (f .from-upto, f .none-below)))
 
 returns : tie.Need-returns
 returns c =
@@ -90,7 +89,7 @@ returns c =
     let r = ready start in
     let ins = first second .put-bytes .ensures in
     let regs = second .put-bytes2 .ensures in
-    let w = settled-at (f .nets) (settled .settle-nets .ensures) in (
+    let w = settled .settle-nets .ensures in (
       settled-bytes (r .image) (size start) (start .pre .1 .1 .1) (f .ins) (f .regs) ins regs w,
       settled-prepared (r .image) (size start) (start .pre .1 .1 .1) (f .ins) (f .regs) ins regs w,
     )
