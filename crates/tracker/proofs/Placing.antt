@@ -5,11 +5,11 @@ use native.Mathlib.Numerals.{add-one}
 use native.Mathlib.Omega.{arith}
 use mathlib.Core.Logic.{⊎-elim}
 use mathlib.Core.Path.{_≡_, refl, sym, ap, _∙_}
-use mathlib.Core.List.{List, [], _∷_, map}
+use mathlib.Core.List.{List, [], _∷_, _++_, map, append-nil}
 use mathlib.Core.Bool.{Bool, true, false, _&&_, cond}
 use lib.Dec.{eqb}
 use lib.ListN.{length, getD, take, drop, set, length-set, length-map, drop-of-length-le}
-use lib.Seq.{drop-cons, take-set-le, getD-set-same, getD-set-other}
+use lib.Seq.{drop-cons, take-suc, take-suc-set, take-set-le, getD-set-same, getD-set-other}
 use borrow.Author.Tests.{eqb-true, eqb-false}
 use Rattle.gates.specs.Kinds.{REG, OUT}
 use Rattle.gates.specs.Rules.{mark}
@@ -18,7 +18,7 @@ use Rattle.netlist.specs.Image.{sizesOf, net, kindAt, operandAt, netAt, netsFro
 use Rattle.netlist.proofs.Nets.{netsLeft, nets-done, net-in}
 use Rattle.netlist.proofs.Checked.{length-nets}
 use Rattle.tracker.specs.Cycle.{pinByte, Verdict, clear, flow, outputsFrom, verdictFrom, clocked}
-use Rattle.tracker.specs.Lists.{Low, placesFrom, Places, Put}
+use Rattle.tracker.specs.Lists.{Low, placesFrom, protectedOf, Within, Places, Put, firstMarked}
 use Rattle.tracker.proofs.Selections.{Selection, outputs-selected, registers-selected, selection-length, place-below, selection-place}
 use Rattle.tracker.proofs.Filling.{Pass, pass-takes, pass-skips, Filled, fill-begins, fill-goes-on, fill-length, fill-ends}
 use Rattle.tracker.proofs.Gatewise.{below-or-here, there-or-not}
@@ -55,7 +55,7 @@ listed k i (x ∷ xs) j h = told (eqb (x .kind) k) refl j h (listed k (suc i) xs
 pub places-differ : (k : ℕ) (xs : List Net) → Places (length xs) (placesFrom k 0 xs)
 places-differ k xs =
     record {
-      below = λ j h. let l = listed k 0 xs j h in omega (arith, l .number, l .there);
+      within = record { below = λ j h. let l = listed k 0 xs j h in omega (arith, l .number, l .there) };
       different = λ j m h g e.
           let l = listed k 0 xs j h in
           let r = listed k 0 xs m g in
@@ -98,7 +98,7 @@ module _ (s : List ℕ) {n : ℕ} (e : n ≡ sizesOf s .nets) (k : ℕ) where
       let i = getD (placesFrom k 0 (netsOf s)) j 0 in
       let d = net 0 0 0 0 in
       let same : i ≡ l .net = omega (arith, l .number) in
-      sym (ap (λ (x : Net). x .kind) (net-in s n i d e (places-in .below j h))) ∙ ap (λ p. getD (netsOf s) p d .kind) same ∙ l .kind d
+      sym (ap (λ (x : Net). x .kind) (net-in s n i d e (places-in .within .below j h))) ∙ ap (λ p. getD (netsOf s) p d .kind) same ∙ l .kind d
 
   -- of any list that is this one
   module _ {list : List ℕ} (o : list ≡ placesFrom k 0 (netsOf s)) where
@@ -117,7 +117,7 @@ pub put-goes-on : {list bytes before after : List ℕ} {j n : ℕ} → Places n 
 put-goes-on {list} {bytes} {before} {after} {j} places e h p =
     let i = getD list j 0 in
     let b = getD bytes j 0 in
-    let there : i < length after = omega (arith, places .below j h, p .size) in
+    let there : i < length after = omega (arith, places .within .below j h, p .size) in
     record {
       size = length-set after i b ∙ p .size;
       taken = λ k l.
@@ -161,22 +161,60 @@ module _ (f : ℕ → ℕ) where
       rw (selection .next i (netAt s n i) (netsFrom s n (suc i) m), h i)
       (mapped (eqb (netAt s n i .kind) k) i _ _ (gathered-selection selection s n h (suc i) m))
 
--- THE VERDICT, by the listed OUTs
-pub verdictAt : (s : List ℕ) (n : ℕ) (list nets : List ℕ) → Verdict
-verdictAt s n [] nets = clear
-verdictAt s n (i ∷ is) nets = cond (eqb (operandAt s n i 1) 1 && mark (getD nets i 0)) (flow i) (verdictAt s n is nets)
+-- THE VERDICT, by the listed OUTs that are protected
+one-out : (s : List ℕ) (i : ℕ) (nets : List ℕ) (c : Bool) (is : List ℕ) (v : Verdict) → firstMarked (protectedOf s is) nets ≡ v
+    → firstMarked (protectedOf s (cond c (i ∷ is) is)) nets ≡ cond (c && eqb (operandAt s (sizesOf s .nets) i 1) 1 && mark (getD nets i 0)) (flow i) v
+unfolding firstMarked protectedOf
+one-out s i nets true is v e = told (eqb (operandAt s (sizesOf s .nets) i 1) 1)
+  where
+    told : (b : Bool) → firstMarked (cond b (i ∷ protectedOf s is) (protectedOf s is)) nets ≡ cond (b && mark (getD nets i 0)) (flow i) v
+    told true = rw e
+    told false = e
+one-out s i nets false is v e = e
 
-one-out : (s : List ℕ) (n i : ℕ) (nets : List ℕ) (c : Bool) (is : List ℕ) (v : Verdict) → verdictAt s n is nets ≡ v
-    → verdictAt s n (cond c (i ∷ is) is) nets ≡ cond (c && eqb (operandAt s n i 1) 1 && mark (getD nets i 0)) (flow i) v
-unfolding verdictAt
-one-out s n i nets true is v e = rw e
-one-out s n i nets false is v e = e
+protected-verdict-from : (s nets : List ℕ) (i m : ℕ)
+    → firstMarked (protectedOf s (placesFrom OUT i (netsFrom s (sizesOf s .nets) i m))) nets ≡ verdictFrom i (netsFrom s (sizesOf s .nets) i m) nets
+unfolding netsFrom placesFrom verdictFrom firstMarked protectedOf netAt
+protected-verdict-from s nets i zero = refl
+protected-verdict-from s nets i (suc m) = one-out s i nets (eqb (netAt s (sizesOf s .nets) i .kind) OUT) _ _ (protected-verdict-from s nets (suc i) m)
 
-pub verdict-listed-is : (s : List ℕ) (n : ℕ) (nets : List ℕ) (i m : ℕ)
-    → verdictAt s n (placesFrom OUT i (netsFrom s n i m)) nets ≡ verdictFrom i (netsFrom s n i m) nets
-unfolding netsFrom placesFrom verdictFrom verdictAt netAt
-verdict-listed-is s n nets i zero = refl
-verdict-listed-is s n nets i (suc m) = one-out s n i nets (eqb (netAt s n i .kind) OUT) _ _ (verdict-listed-is s n nets (suc i) m)
+pub protected-verdict : (s nets : List ℕ) → firstMarked (protectedOf s (placesFrom OUT 0 (netsOf s))) nets ≡ verdictFrom 0 (netsOf s) nets
+protected-verdict s nets = rw (all-nets s refl 0) (protected-verdict-from s nets 0 (sizesOf s .nets))
+
+-- they are listed one by one
+pub protected-append : (s xs ys : List ℕ) → protectedOf s (xs ++ ys) ≡ protectedOf s xs ++ protectedOf s ys
+unfolding protectedOf
+protected-append s [] ys = refl
+protected-append s (x ∷ xs) ys = told _ _ _ (eqb (operandAt s (sizesOf s .nets) x 1) 1) (protected-append s xs ys)
+  where
+    told : (l m r : List ℕ) (b : Bool) → l ≡ m ++ r → cond b (x ∷ l) l ≡ cond b (x ∷ m) m ++ r
+    told l m r true e = ap (λ l. x ∷ l) e
+    told l m r false e = e
+
+pub protected-next : (s outs list : List ℕ) {found j : ℕ} → j < length outs → found < length list → take found list ≡ protectedOf s (take j outs)
+    → let i = getD outs j 0 in
+    take (found + cond (eqb (operandAt s (sizesOf s .nets) i 1) 1) 1 0) (set list found i) ≡ protectedOf s (take (j + 1) outs)
+unfolding protectedOf
+protected-next s outs list {found} {j} h g e =
+    let i = getD outs j 0 in
+    rw (add-one j, take-suc outs j 0 h, protected-append s (take j outs) (i ∷ []), ← e) (told i (eqb (operandAt s (sizesOf s .nets) i 1) 1))
+  where
+    told : (i : ℕ) (b : Bool) → take (found + cond b 1 0) (set list found i) ≡ take found list ++ cond b (i ∷ []) []
+    told i true = rw (add-one found) (take-suc-set list found i g)
+    told i false = let z : found + 0 ≡ found = omega arith in rw (z, append-nil) (take-set-le found list found i (omega arith))
+
+all-within : (s : List ℕ) {n : ℕ} (list : List ℕ) → ((j : ℕ) → j < length list → getD list j 0 < n) → (j : ℕ) → j < length (protectedOf s list) → getD (protectedOf s list) j 0 < n
+unfolding protectedOf
+all-within s [] w j h = absurd (omega arith)
+all-within s {n} (i ∷ is) w j h = told _ (eqb (operandAt s (sizesOf s .nets) i 1) 1) (all-within s is (λ k l. w (suc k) (omega arith))) j h
+  where
+    told : (l : List ℕ) (b : Bool) → ((j : ℕ) → j < length l → getD l j 0 < n) → (j : ℕ) → j < length (cond b (i ∷ l) l) → getD (cond b (i ∷ l) l) j 0 < n
+    told l true more zero h = w 0 (omega arith)
+    told l true more (suc j) h = more j (omega arith)
+    told l false more j h = more j h
+
+pub protected-within : (s : List ℕ) {n : ℕ} {list : List ℕ} → Within n list → Within n (protectedOf s list)
+protected-within s {list = list} w = record { below = all-within s list (w .below) }
 
 -- ALL NETS of an image: what the lists of its REGs and of its OUTs give
 module _ (s : List ℕ) {n : ℕ} (e : n ≡ sizesOf s .nets) (nets : List ℕ) where
@@ -187,20 +225,16 @@ module _ (s : List ℕ) {n : ℕ} (e : n ≡ sizesOf s .nets) (nets : List ℕ) 
   pub outputs-listed : map (λ i. getD nets i 0) (placesFrom OUT 0 (netsOf s)) ≡ outputsFrom 0 (netsOf s) nets
   outputs-listed = rw (all-nets s e 0) (gathered-selection (λ i. getD nets i 0) (outputs-selected nets) s n (λ i. refl) 0 n)
 
-  pub verdict-listed : verdictAt s n (placesFrom OUT 0 (netsOf s)) nets ≡ verdictFrom 0 (netsOf s) nets
-  verdict-listed = rw (all-nets s e 0) (verdict-listed-is s n nets 0 n)
-
-pub verdict-next : (s : List ℕ) (n : ℕ) (list nets : List ℕ) (j : ℕ) → j < length list
-    → verdictAt s n (drop j list) nets
-    ≡ cond (eqb (operandAt s n (getD list j 0) 1) 1 && mark (getD nets (getD list j 0) 0)) (flow (getD list j 0)) (verdictAt s n (drop (j + 1) list) nets)
-unfolding verdictAt
-verdict-next s n list nets j h =
+pub marked-next : (list nets : List ℕ) (j : ℕ) → j < length list
+    → firstMarked (drop j list) nets ≡ cond (mark (getD nets (getD list j 0) 0)) (flow (getD list j 0)) (firstMarked (drop (j + 1) list) nets)
+unfolding firstMarked
+marked-next list nets j h =
     let e : drop j list ≡ getD list j 0 ∷ drop (j + 1) list = drop-cons list j 0 h ∙ ap (λ m. getD list j 0 ∷ drop m list) (sym (add-one j)) in
-    ap (λ l. verdictAt s n l nets) e
+    ap (λ l. firstMarked l nets) e
 
-pub verdict-done : (s : List ℕ) (n : ℕ) (list nets : List ℕ) (j : ℕ) → length list ≤ j → verdictAt s n (drop j list) nets ≡ clear
-unfolding verdictAt
-verdict-done s n list nets j h = ap (λ l. verdictAt s n l nets) (drop-of-length-le list h)
+pub marked-done : (list nets : List ℕ) (j : ℕ) → length list ≤ j → firstMarked (drop j list) nets ≡ clear
+unfolding firstMarked
+marked-done list nets j h = ap (λ l. firstMarked l nets) (drop-of-length-le list h)
 
 -- A LIST BEING MADE: a number may be written at the next place before it is known whether it belongs there
 module _ {k : ℕ} {s : List ℕ} {n : ℕ} {lent buffer : List ℕ} {j i : ℕ} (p : Pass (places-selected k) s n lent buffer j i) where

@@ -5,12 +5,12 @@ use mathlib.Core.List.{List, [], _∷_, map}
 use mathlib.Core.Bool.{cond}
 use lib.Dec.{eqb, leb}
 use lib.ListN.{length, getD, take, drop, set}
-use Rattle.gates.specs.Rules.{gateByte}
+use Rattle.gates.specs.Rules.{mark, gateByte}
 use Rattle.gates.specs.Kinds.{CONST, INPUT, REG, NOT, OUT}
 use Rattle.netlist.specs.declared.image.Net.{Net}
 use Rattle.netlist.specs.Image.{sizesOf, kindAt, operandAt, netsOf}
-use Rattle.tracker.specs.declared.listed.Parts.{Parts}
-use Rattle.tracker.specs.Cycle.{pinByte}
+use Rattle.tracker.specs.declared.lists.Parts.{Parts}
+use Rattle.tracker.specs.Cycle.{pinByte, Verdict, clear, flow}
 
 -- the numbers of the nets of kind k among nets, the first of which is net i, in net order
 unfoldable pub placesFrom : (k i : ℕ) → List Net → List ℕ
@@ -21,9 +21,18 @@ placesFrom k i (x ∷ xs) = cond (eqb (x .kind) k) (i ∷ placesFrom k (suc i) x
 pub record Low (bs : List ℕ) : Type 0 where
   pub low : (i : ℕ) → getD bs i 0 < 4
 
+-- of some OUTs of an image s, by their numbers, those that are protected
+unfoldable pub protectedOf : (s list : List ℕ) → List ℕ
+protectedOf s [] = []
+protectedOf s (i ∷ is) = cond (eqb (operandAt s (sizesOf s .nets) i 1) 1) (i ∷ protectedOf s is) (protectedOf s is)
+
+-- numbers of nets below n
+pub record Within (n : ℕ) (list : List ℕ) : Type 0 where
+  pub below : (j : ℕ) → j < length list → getD list j 0 < n
+
 -- numbers of nets below n, no two of which are the same
 pub record Places (n : ℕ) (list : List ℕ) : Type 0 where
-  pub below : (j : ℕ) → j < length list → getD list j 0 < n
+  pub within : Within n list
   pub different : (j k : ℕ) → j < length list → k < length list → getD list j 0 ≡ getD list k 0 → j ≡ k
 
 -- the first j of the listed nets have taken their bytes, and no other net has changed
@@ -35,6 +44,11 @@ pub record Put (list bytes before after : List ℕ) (j : ℕ) : Type 0 where
 -- the bytes of the listed nets
 abbrev pub gathered : (list nets : List ℕ) → List ℕ
 gathered list nets = map (λ i. getD nets i 0) list
+
+-- a flow at the first of the listed nets that has mark 1, or clear
+unfoldable pub firstMarked : (list nets : List ℕ) → Verdict
+firstMarked [] nets = clear
+firstMarked (i ∷ is) nets = cond (mark (getD nets i 0)) (flow i) (firstMarked is nets)
 
 -- what operand k of net i reads as a pin
 abbrev pub pinAt : (s bs : List ℕ) (i k : ℕ) → ℕ
@@ -68,3 +82,8 @@ pub record Found (s : List ℕ) (p : Parts) (list : List ℕ) : Type 0 where
   pub ins : take (p .regs) list ≡ placesFrom INPUT 0 (netsOf s)
   pub regs : take (p .outs - p .regs) (drop (p .regs) list) ≡ placesFrom REG 0 (netsOf s)
   pub outs : take (p .end - p .outs) (drop (p .outs) list) ≡ placesFrom OUT 0 (netsOf s)
+
+-- and which OUTs are protected: they stand at the start of a list of their own
+pub record Watched (s : List ℕ) (p : Parts) (protected : List ℕ) : Type 0 where
+  pub there : p .watched ≤ length protected
+  pub are : take (p .watched) protected ≡ protectedOf s (placesFrom OUT 0 (netsOf s))

@@ -1,19 +1,20 @@
-// Passes by lists of net numbers: the nets of one kind, found once a run.
-use crate::answer::Verdict;
-use gates::marked;
+// The lists that a run makes once: the numbers of its INPUTs, its REGs and its OUTs, and of those OUTs that are protected.
+use crate::settling::lowest_gate;
+use gates::INPUT;
+use gates::OUT;
+use gates::REG;
 use netlist::kind_of;
 use netlist::operand_of;
+use netlist::sizes_of;
 ghost use mathlib.Core.Path.{_≡_};
 ghost use mathlib.Core.Option.{none};
 ghost use mathlib.Core.Bool.{cond};
-ghost use Prim.Native.Nat.{_≤_};
-ghost use lib.ListN.{length};
-ghost use Rattle.gates.specs.Kinds.{REG, OUT};
+ghost use Prim.Native.Nat.{_+_, _-_, _≤_};
+ghost use lib.ListN.{length, take, drop};
+ghost use Rattle.gates.specs.Kinds.{INPUT, REG, OUT};
 ghost use Rattle.netlist.specs.Image.{sizesOf, netsOf, count};
 ghost use Rattle.netlist.specs.Check.{checkRefusal};
-ghost use Rattle.tracker.specs.Answers.{verdictIn};
-ghost use Rattle.tracker.specs.Cycle.{clocked, verdictFrom};
-ghost use Rattle.tracker.specs.Lists.{placesFrom, Places, Put, gathered};
+ghost use Rattle.tracker.specs.Lists.{placesFrom, protectedOf, Found, Watched};
 
 // 1 where the flag is set, and 0 where not.
 fn one_if(flag: bool) -> usize
@@ -24,7 +25,7 @@ fn one_if(flag: bool) -> usize
 
 // The numbers of all nets of a kind, in net order. The list is as long as there are such nets. A number is written before it is known
 // whether the net is of the kind, and counted if it is: so there is no branch on the kind.
-pub fn list_nets(image: &[u8], kind: u8, list: &mut [u16])
+fn list_nets(image: &[u8], kind: u8, list: &mut [u16])
     requires { ⌜ checkRefusal (now image) ≡ none ⌝ }
     requires { ⌜ length (now list) ≡ count kind (netsOf (now image)) ⌝ }
     ensures { λ r. ⌜ now (list .exit) ≡ placesFrom kind 0 (netsOf (now (image .entry))) ⌝ }
@@ -38,59 +39,62 @@ pub fn list_nets(image: &[u8], kind: u8, list: &mut [u16])
     }
 }
 
-// Each listed net takes a byte, in order.
-pub fn put_bytes(list: &[u16], bytes: &[u8], nets: &mut [u8])
-    requires { ⌜ (length (now bytes) ≡ length (now list)) × Places (length (now nets)) (now list) ⌝ }
-    ensures { λ r. ⌜ Put (now (list .entry)) (now (bytes .entry)) (now (nets .entry)) (now (nets .exit)) (length (now (list .entry))) ⌝ }
+// The lists of the INPUTs, of the REGs and of the OUTs, one after the other.
+fn list_kinds(image: &[u8], regs: usize, outs: usize, end: usize, list: &mut [u16])
+    requires { ⌜ checkRefusal (now image) ≡ none ⌝ }
+    requires { ⌜ (regs ≡ sizesOf (now image) .inputs) × (outs ≡ regs + sizesOf (now image) .registers) × (end ≡ outs + sizesOf (now image) .outputs) ⌝ }
+    requires { ⌜ end ≤ length (now list) ⌝ }
+    ensures { λ r. ⌜ take regs (now (list .exit)) ≡ placesFrom INPUT 0 (netsOf (now (image .entry))) ⌝ }
+    ensures { λ r. ⌜ take (outs - regs) (drop regs (now (list .exit))) ≡ placesFrom REG 0 (netsOf (now (image .entry))) ⌝ }
+    ensures { λ r. ⌜ take (end - outs) (drop outs (now (list .exit))) ≡ placesFrom OUT 0 (netsOf (now (image .entry))) ⌝ }
 {
-    let mut j: usize = 0;
-    while j < list.len() {
-        nets[list[j] as usize] = bytes[j];
-        j += 1;
-    }
+    list_nets(image, INPUT, &mut list[..regs]);
+    list_nets(image, REG, &mut list[regs..outs]);
+    list_nets(image, OUT, &mut list[outs..end]);
 }
 
-// The bytes of the listed nets, in order.
-pub fn take_bytes(list: &[u16], nets: &[u8], bytes: &mut [u8])
-    requires { ⌜ (length (now bytes) ≡ length (now list)) × Places (length (now nets)) (now list) ⌝ }
-    ensures { λ r. ⌜ now (bytes .exit) ≡ gathered (now (list .entry)) (now (nets .entry)) ⌝ }
+// Those of the listed OUTs that are protected, in order. The answer is how many they are.
+fn list_protected(image: &[u8], outs: &[u16], list: &mut [u16]) -> usize
+    requires { ⌜ (checkRefusal (now image) ≡ none) × (now outs ≡ placesFrom OUT 0 (netsOf (now image))) ⌝ }
+    requires { ⌜ length (now outs) ≤ length (now list) ⌝ }
+    ensures { λ r. ⌜ (r ≤ length (now (list .exit))) × (take r (now (list .exit)) ≡ protectedOf (now (image .entry)) (now (outs .entry))) ⌝ }
 {
+    let mut found: usize = 0;
     let mut j: usize = 0;
-    while j < list.len() {
-        bytes[j] = nets[list[j] as usize];
+    while j < outs.len() {
+        let i = outs[j];
+        list[found] = i;
+        found += one_if(operand_of(image, i as usize, 1) == 1);
         j += 1;
     }
+    found
 }
 
-// The clock: every listed register takes the byte of its net, all together.
-pub fn clock_listed(image: &[u8], list: &[u16], nets: &[u8], state: &mut [u8])
-    requires { ⌜ (checkRefusal (now image) ≡ none) × (length (now nets) ≡ sizesOf (now image) .nets) ⌝ }
-    requires { ⌜ (now list ≡ placesFrom REG 0 (netsOf (now image))) × (length (now state) ≡ length (now list)) ⌝ }
-    ensures { λ r. ⌜ now (state .exit) ≡ clocked (netsOf (now (image .entry))) (now (nets .entry)) ⌝ }
-{
-    let mut j: usize = 0;
-    while j < list.len() {
-        let a = operand_of(image, list[j] as usize, 0);
-        state[j] = nets[a];
-        j += 1;
-    }
+// What a run finds out once: the first net that may be a gate or OUT, where the lists of the REGs and of the OUTs begin and end, after that
+// of the INPUTs, and how many OUTs are protected.
+pub struct Parts {
+    pub from: usize,
+    pub regs: usize,
+    pub outs: usize,
+    pub end: usize,
+    pub watched: usize,
 }
 
-// A flow at the first of the listed OUTs that is protected and has mark 1, or clear.
-pub fn verdict_listed(image: &[u8], list: &[u16], nets: &[u8]) -> Verdict
-    requires { ⌜ (checkRefusal (now image) ≡ none) × (length (now nets) ≡ sizesOf (now image) .nets) ⌝ }
-    requires { ⌜ now list ≡ placesFrom OUT 0 (netsOf (now image)) ⌝ }
-    ensures { λ r. ⌜ verdictIn r ≡ verdictFrom 0 (netsOf (now (image .entry))) (now (nets .entry)) ⌝ }
+// The parts of an accepted image, with its lists.
+pub fn find_parts(image: &[u8], list: &mut [u16], protected: &mut [u16]) -> Parts
+    requires { ⌜ (checkRefusal (now image) ≡ none) × (length (now list) ≡ 8192) × (length (now protected) ≡ 8192) ⌝ }
+    ensures { λ r. ⌜ Found (now (image .entry)) r (now (list .exit)) × Watched (now (image .entry)) r (now (protected .exit)) ⌝ }
 {
-    let mut j: usize = 0;
-    loop {
-        if list.len() <= j {
-            break Verdict::Clear;
-        }
-        let i = list[j] as usize;
-        if (operand_of(image, i, 1) == 1) & marked(nets[i]) {
-            break Verdict::Flow(i);
-        }
-        j += 1;
+    let z = sizes_of(image);
+    let outs = z.inputs + z.registers;
+    let end = outs + z.outputs;
+    list_kinds(image, z.inputs, outs, end, list);
+    let watched = list_protected(image, &list[outs..end], protected);
+    Parts {
+        from: lowest_gate(image, z.nets),
+        regs: z.inputs,
+        outs,
+        end,
+        watched,
     }
 }

@@ -11,8 +11,8 @@ returns c =
     let known = c .before in
     sym (run-refused _ _ _ _ _ _ (sym (known .before .before .run-refusal .ensures) ∙ ap refusalIn (known .o .given .1)))
 
-listed-cycles-requires : tie.Need-listed-cycles-requires
-listed-cycles-requires c κs =
+cycles-requires : tie.Need-cycles-requires
+cycles-requires c κs =
     let told = c .before .before in
     sym (told .before .before .run-refusal .ensures) ∙ ap refusalIn (told .enum-told .given .1)
 
@@ -26,7 +26,7 @@ run-spec =
     (λ c. search needs)
     returns
     (λ c. search needs)
-    listed-cycles-requires
+    cycles-requires
     (λ c. search needs)
     (λ c. search needs)
     (λ c. search needs))

@@ -1,4 +1,4 @@
--- `tracker::lists::clock_listed` meets its contract. At j, the new bytes of the first j registers stand, and those of the others are left.
+-- `tracker::listed::clock_listed` meets its contract. At j, the new bytes of the first j registers stand, and those of the others are left.
 use Prim.Native.Nat.{_≤_, _<_, _-_}
 use borrow.Author.Needs.{needs}
 use native.Mathlib.Omega.{arith}
@@ -11,8 +11,8 @@ use Rattle.netlist.proofs.Checked.{Checked, check-none}
 use Rattle.tracker.specs.Cycle.{pinByte}
 use Rattle.tracker.proofs.Reading.{pin-below}
 use Rattle.tracker.proofs.Placing.{Gathering, gather-begins, gather-goes-on, gather-room, gather-ends, listed-places, listed-kind, clocked-listed}
-use Rattle.tracker.proofs.lists.clock_listed.Statement.{statement}
-use Rattle.tracker.proofs.lists.clock_listed.Tie as tie
+use Rattle.tracker.proofs.listed.clock_listed.Statement.{statement}
+use Rattle.tracker.proofs.listed.clock_listed.Tie as tie
 
 abbrev Inv-loop : tie.InvT-loop
 Inv-loop image list nets state₀ j₀ state j = (j ≤ length list) × Gathering (λ i. pinByte nets (operandAt image (sizesOf image .nets) i 0)) list state j
@@ -32,7 +32,7 @@ module _ (c : tie.In-loop Inv-loop μ-loop) where
   checked = check-none _ .0 (start .pre .0 .0)
 
   listed-below : getD (start .args .list .now) (c .before .loop .j) 0 < sizesOf (start .args .image .now) .nets
-  listed-below = listed-places (start .args .image .now) refl REG (start .pre .1 .0) .below _ (c .loop-test .taken)
+  listed-below = listed-places (start .args .image .now) refl REG (start .pre .1 .0) .within .below _ (c .loop-test .taken)
 
   is-register : kindAt (start .args .image .now) (getD (start .args .list .now) (c .before .loop .j) 0) ≡ REG
   is-register = listed-kind (start .args .image .now) refl REG (start .pre .1 .0) _ (c .loop-test .taken)

@@ -1,12 +1,12 @@
--- `tracker::lists::take_bytes` meets its contract. At j, the bytes of the first j listed nets stand, and those of the others are left.
+-- `tracker::listed::take_bytes` meets its contract. At j, the bytes of the first j listed nets stand, and those of the others are left.
 use Prim.Native.Nat.{_≤_, _-_}
 use borrow.Author.Needs.{needs}
 use native.Mathlib.Omega.{arith}
 use mathlib.Core.Path.{_≡_, sym, _∙_}
 use lib.ListN.{length, getD}
 use Rattle.tracker.proofs.Placing.{Gathering, gather-begins, gather-goes-on, gather-room, gather-ends}
-use Rattle.tracker.proofs.lists.take_bytes.Statement.{statement}
-use Rattle.tracker.proofs.lists.take_bytes.Tie as tie
+use Rattle.tracker.proofs.listed.take_bytes.Statement.{statement}
+use Rattle.tracker.proofs.listed.take_bytes.Tie as tie
 
 abbrev Inv-loop : tie.InvT-loop
 Inv-loop list nets bytes₀ j₀ bytes j = (j ≤ length list) × Gathering (λ i. getD nets i 0) list bytes j

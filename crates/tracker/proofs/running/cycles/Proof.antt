@@ -1,4 +1,4 @@
--- `tracker::listed::listed_cycles` meets its contract. At cycle c, what is left of the run gives the whole answer, the last state and all outputs.
+-- `tracker::running::cycles` meets its contract. At cycle c, what is left of the run gives the whole answer, the last state and all outputs.
 use Prim.Native.Nat.{ℕ, suc, _+_, _-_, _*_, _^_, _≤_, _<_}
 use native.Mathlib.Numerals.{add-one}
 use native.Mathlib.Omega.{arith}
@@ -17,8 +17,8 @@ use Rattle.tracker.specs.Cycle.{cycleOf, FirstFlow}
 use Rattle.tracker.specs.Lists.{Prepared}
 use Rattle.tracker.proofs.Calls.{Ready, step-none, run-none, run-accepted}
 use Rattle.tracker.proofs.Runs.{product-fits, after, Running, run-begins, all-outputs, row-fits, row-ready, outputs-fit, run-goes-on, run-ends}
-use Rattle.tracker.proofs.listed.listed_cycles.Statement.{statement}
-use Rattle.tracker.proofs.listed.listed_cycles.Tie as tie
+use Rattle.tracker.proofs.running.cycles.Statement.{statement}
+use Rattle.tracker.proofs.running.cycles.Tie as tie
 
 -- the net bytes of a run: the first n are prepared
 record Nets (s : List ℕ) (n : ℕ) (nets : List ℕ) : Type 0 where
@@ -33,11 +33,11 @@ nets-back {s} {n} ys nets e h l p =
     }
 
 abbrev Inv-loop : tie.InvT-loop
-Inv-loop image k state₀ rows outputs₀ z n t list nets₀ p first₀ row₀ out₀ c₀ state outputs nets first row out c =
+Inv-loop image k state₀ rows outputs₀ z n t list protected nets₀ p first₀ row₀ out₀ c₀ state outputs nets first row out c =
     (c ≤ k) × Running image k rows state₀ c (k - c) state outputs (firstFlowIn first) row out × Nets image n nets
 
 abbrev μ-loop : tie.MeasureT-loop
-μ-loop image k state₀ rows outputs₀ z n t list nets₀ p first₀ row₀ out₀ c₀ state outputs nets first row out c = k - c
+μ-loop image k state₀ rows outputs₀ z n t list protected nets₀ p first₀ row₀ out₀ c₀ state outputs nets first row out c = k - c
 
 -- the bytes are those of an accepted run, and so few that their numbers fit
 accepted : (c : tie.Start Inv-loop μ-loop)
@@ -72,23 +72,23 @@ module _ (c : tie.After-sizes-of Inv-loop μ-loop) where
   nets-few = omega (arith, nets-are, accepted begun .image .few-nets)
 
 find-parts-requires : tie.Need-find-parts-requires Inv-loop μ-loop
-find-parts-requires c κs = let sized = c .before .before in (check-none _ .1 (accepted (begun sized) .image), refl)
+find-parts-requires c κs = let sized = c .before .before .before in (check-none _ .1 (accepted (begun sized) .image), refl, refl)
 
 array-borrow-prefix-nets : tie.Need-array-borrow-prefix-nets Inv-loop μ-loop
-array-borrow-prefix-nets c = nets-few (c .before .before .before .before)
+array-borrow-prefix-nets c = nets-few (c .before .before .before .before .before .before)
 
 slice-aggregate-set-constants : tie.Need-slice-aggregate-set-constants Inv-loop μ-loop
-slice-aggregate-set-constants c = sym (length-take-le _ _ (nets-few (c .before .before .before .before .before)))
+slice-aggregate-set-constants c = sym (length-take-le _ _ (nets-few (c .before .before .before .before .before .before .before)))
 
 set-constants-requires : tie.Need-set-constants-requires Inv-loop μ-loop
 set-constants-requires c κs =
-    let sized = c .before .before .before .before .before in
+    let sized = c .before .before .before .before .before .before .before in
     (check-none _ .1 (accepted (begun sized) .image), nets-are sized, length-take-le _ _ (nets-few sized))
 
 loop-holds : tie.Need-loop-holds Inv-loop μ-loop
 loop-holds c =
     let set = c .before in
-    let sized = set .before .before .before .before .before .before in
+    let sized = set .before .before .before .before .before .before .before .before in
     let start = begun sized in
     let args = start .args in
     let n = sized .sizes-of .result .nets in
@@ -100,7 +100,7 @@ loop-holds c =
 
 -- what stands at the head of the loop
 abbrev sized-at : tie.At-loop Inv-loop μ-loop → tie.After-sizes-of Inv-loop μ-loop
-sized-at c = c .before .before .before .before .before .before .before .before
+sized-at c = c .before .before .before .before .before .before .before .before .before .before
 
 abbrev begun-at : tie.At-loop Inv-loop μ-loop → tie.Start Inv-loop μ-loop
 begun-at c = begun (sized-at c)
@@ -130,9 +130,9 @@ add-out-end c =
     let sized = sized-at (turn-at .before) in
     rw (sized .sizes-of .ensures) (record { fits = omega (arith, outputs-fit (turn turn-at), all-outputs (turn turn-at), outputs-few (begun sized)) })
 
-part-listed-cycle-end : tie.Need-part-listed-cycle-end Inv-loop μ-loop
-part-listed-cycle-end c =
-    let turn-at = c .before .before .before .before in
+part-cycle-end : tie.Need-part-cycle-end Inv-loop μ-loop
+part-cycle-end c =
+    let turn-at = c .before .before .before .before .before in
     let sized = sized-at (turn-at .before) in
     rw (sized .sizes-of .ensures) (row-fits (turn turn-at))
 
@@ -141,23 +141,23 @@ nets-there : (c : tie.At-loop Inv-loop μ-loop) → sized-at c .sizes-of .result
 nets-there c = omega (arith, c .loop .inv .2 .size, nets-few (sized-at c))
 
 array-borrow-prefix-nets-2 : tie.Need-array-borrow-prefix-nets-2 Inv-loop μ-loop
-array-borrow-prefix-nets-2 c = nets-there (c .before .before .before .before .before .before .before)
+array-borrow-prefix-nets-2 c = nets-there (c .before .before .before .before .before .before .before .before)
 
-slice-aggregate-listed-cycle-2 : tie.Need-slice-aggregate-listed-cycle-2 Inv-loop μ-loop
-slice-aggregate-listed-cycle-2 c = sym (length-take-le _ _ (nets-there (c .before .before .before .before .before .before .before .before)))
+slice-aggregate-cycle-3 : tie.Need-slice-aggregate-cycle-3 Inv-loop μ-loop
+slice-aggregate-cycle-3 c = sym (length-take-le _ _ (nets-there (c .before .before .before .before .before .before .before .before .before)))
 
-part-listed-cycle-end-2 : tie.Need-part-listed-cycle-end-2 Inv-loop μ-loop
-part-listed-cycle-end-2 c =
-    let turn-at = c .before .before .before .before .before .before .before in
+part-cycle-end-2 : tie.Need-part-cycle-end-2 Inv-loop μ-loop
+part-cycle-end-2 c =
+    let turn-at = c .before .before .before .before .before .before .before .before in
     let sized = sized-at (turn-at .before) in
     rw (sized .sizes-of .ensures) (outputs-fit (turn turn-at))
 
-listed-cycle-requires : tie.Need-listed-cycle-requires Inv-loop μ-loop
-listed-cycle-requires c κs =
-    let turn-at = c .before .before .before .before .before .before .before .before in
+cycle-requires : tie.Need-cycle-requires Inv-loop μ-loop
+cycle-requires c κs =
+    let turn-at = c .before .before .before .before .before .before .before .before .before in
     let at = turn-at .before in
-    let found = at .before .before .before .before .before in
-    let tabled = found .before .before in
+    let found = at .before .before .before .before .before .before in
+    let tabled = found .before .before .before in
     let sized = tabled .before in
     let r = turn turn-at in
     let s = begun sized .args .image .now in
@@ -170,8 +170,7 @@ listed-cycle-requires c κs =
         rw e (step-none _ _ _ _ .1 (row-ready r, length-take-le _ _ (nets-there at) ∙ nets-are sized)),
         (
           found .find-parts .ensures,
-          at .loop .inv .2 .prepared,
-          rw f (length-take-le _ _ (rw length-drop (omega (arith, outputs-fit r)))),
+          (at .loop .inv .2 .prepared, rw f (length-take-le _ _ (rw length-drop (omega (arith, outputs-fit r))))),
         ),
       ),
     )
@@ -188,34 +187,34 @@ run-next : {s : List ℕ} {k : ℕ} {rows begin : List ℕ} {c m : ℕ} {st outp
     → Running s k rows begin (suc c) m st′ (take out outputs ++ (ys ++ drop (out + o) outputs)) first′ (row + i) (out + o)
 run-next r st-is ys-are first-is i-is o-is = rw (st-is, ys-are, first-is, i-is, o-is) (run-goes-on r)
 
-module _ (c : tie.After-listed-cycle Inv-loop μ-loop) where
+module _ (c : tie.After-cycle Inv-loop μ-loop) where
   abbrev turn-of : tie.In-loop Inv-loop μ-loop
-  turn-of = c .before .before .before .before .before .before .before .before .before
+  turn-of = c .before .before .before .before .before .before .before .before .before .before
 
   next : let at = turn-of .before in
       let z = sized-at at .sizes-of .result in
       let args = begun-at at .args in
       let i = at .loop .c in
-      Running (args .image .now) (args .k) (args .rows .now) (args .state .now) (suc i) (args .k - suc i) (c .listed-cycle .last .1 .1 .1 .1 .1 .1 .1 .0)
-      (take (at .loop .out) (at .loop .outputs) ++ (c .listed-cycle .last .1 .1 .1 .1 .1 .1 .1 .1 .1 .0 ++ drop (at .loop .out + z .outputs) (at .loop .outputs)))
-      (firstFlowIn (c .listed-cycle .result)) (at .loop .row + z .inputs) (at .loop .out + z .outputs)
+      Running (args .image .now) (args .k) (args .rows .now) (args .state .now) (suc i) (args .k - suc i) (c .cycle .last .1 .1 .1 .1 .1 .1 .1 .1 .0)
+      (take (at .loop .out) (at .loop .outputs) ++ (c .cycle .last .1 .1 .1 .1 .1 .1 .1 .1 .1 .1 .0 ++ drop (at .loop .out + z .outputs) (at .loop .outputs)))
+      (firstFlowIn (c .cycle .result)) (at .loop .row + z .inputs) (at .loop .out + z .outputs)
   next =
       let at = turn-of .before in
       let sized = sized-at at in
       let row = at .loop .row in
       let e : row + sized .sizes-of .result .inputs - row ≡ sized .sizes-of .result .inputs = omega arith in
-      let done = rw (e, sized .sizes-of .ensures) at (c .listed-cycle .ensures) in
+      let done = rw (e, sized .sizes-of .ensures) at (c .cycle .ensures) in
       let z = sized .sizes-of .ensures in
       run-next (turn turn-of) (done .1 .1 .0) (done .1 .0) (done .0) (ap (λ (z : Sizes). z .inputs) z) (ap (λ (z : Sizes). z .outputs) z)
 
   nets-next : let at = turn-of .before in
       let n = sized-at at .sizes-of .result .nets in
-      Nets (begun-at at .args .image .now) n (c .listed-cycle .last .1 .1 .1 .1 .1 .1 .1 .1 .0 ++ drop n (at .loop .nets))
+      Nets (begun-at at .args .image .now) n (c .cycle .last .1 .1 .1 .1 .1 .1 .1 .1 .1 .0 ++ drop n (at .loop .nets))
   nets-next =
       let at = turn-of .before in
       let n = sized-at at .sizes-of .result .nets in
-      nets-back (c .listed-cycle .last .1 .1 .1 .1 .1 .1 .1 .1 .0) (at .loop .nets) (c .listed-cycle .kept .1 .1 .1 .1 .1 .1 .1 .1 .0 ∙ length-take-le n (at .loop .nets) (nets-there at))
-      (nets-there at) (at .loop .inv .2 .size) (c .listed-cycle .ensures .1 .1 .1)
+      nets-back (c .cycle .last .1 .1 .1 .1 .1 .1 .1 .1 .1 .0) (at .loop .nets) (c .cycle .kept .1 .1 .1 .1 .1 .1 .1 .1 .1 .0 ∙ length-take-le n (at .loop .nets) (nets-there at))
+      (nets-there at) (at .loop .inv .2 .size) (c .cycle .ensures .1 .1 .1)
 
 add-c : tie.Need-add-c Inv-loop μ-loop
 add-c c = let turn-at = turn-of (c .before .before .before .before .before) in omega (arith, turn-at .loop-test .taken, run-none _ _ _ _ _ .0 (begun-at (turn-at .before) .pre) .1)
@@ -248,14 +247,15 @@ returns c =
     let none-left : start .args .k - at .loop .c ≡ 0 = omega (arith, c .loop-test .left) in
     run-ends (rw none-left at (at .loop .inv .1)) ∙ sym (run-accepted _ _ _ _ _ (start .pre))
 
-pub listed-cycles-spec : {M : Type 1} → statement M
-listed-cycles-spec =
+pub cycles-spec : {M : Type 1} → statement M
+cycles-spec =
     tie.close
     (tie.spec
     Inv-loop
     μ-loop
     sizes-of-requires
     (λ c κs. search needs)
+    (λ c. search needs)
     (λ c. search needs)
     find-parts-requires
     array-borrow-prefix-nets
@@ -267,13 +267,14 @@ listed-cycles-spec =
     (λ c. search needs)
     (λ c. search needs)
     (λ c. search needs)
-    part-listed-cycle-end
+    (λ c. search needs)
+    part-cycle-end
     array-borrow-prefix-nets-2
-    slice-aggregate-listed-cycle-2
+    slice-aggregate-cycle-3
     (λ c. search needs)
     (λ c. search needs)
-    part-listed-cycle-end-2
-    listed-cycle-requires
+    part-cycle-end-2
+    cycle-requires
     add-c
     (λ c. search needs)
     loop-again

@@ -1,4 +1,4 @@
--- `tracker::lists::put_bytes` meets its contract. At j, the first j of the listed nets have taken their bytes.
+-- `tracker::listed::put_bytes` meets its contract. At j, the first j of the listed nets have taken their bytes.
 use Prim.Native.Nat.{_≤_, _-_}
 use borrow.Author.Needs.{needs}
 use native.Mathlib.Numerals.{add-one}
@@ -7,8 +7,8 @@ use mathlib.Core.Path.{_≡_, refl, sym, _∙_}
 use lib.ListN.{length}
 use Rattle.tracker.specs.Lists.{Put}
 use Rattle.tracker.proofs.Placing.{put-begins, put-goes-on}
-use Rattle.tracker.proofs.lists.put_bytes.Statement.{statement}
-use Rattle.tracker.proofs.lists.put_bytes.Tie as tie
+use Rattle.tracker.proofs.listed.put_bytes.Statement.{statement}
+use Rattle.tracker.proofs.listed.put_bytes.Tie as tie
 
 abbrev Inv-loop : tie.InvT-loop
 Inv-loop list bytes nets₀ j₀ nets j = (j ≤ length list) × Put list bytes nets₀ nets j
@@ -26,7 +26,7 @@ slice-write-nets : tie.Need-slice-write-nets Inv-loop μ-loop
 slice-write-nets c =
     let turn = c .before .before in
     let at = turn .before in
-    omega (arith, at .before .pre .1 .below _ (turn .loop-test .taken), at .loop .inv .1 .size)
+    omega (arith, at .before .pre .1 .within .below _ (turn .loop-test .taken), at .loop .inv .1 .size)
 
 loop-again : tie.Need-loop-again Inv-loop μ-loop
 loop-again c =

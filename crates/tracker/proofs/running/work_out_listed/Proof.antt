@@ -1,4 +1,4 @@
--- `tracker::listed::work_out_listed` meets its contract: with the sources in place and the gates settled, the bytes are those of the cycle.
+-- `tracker::running::work_out_listed` meets its contract: with the sources in place and the gates settled, the bytes are those of the cycle.
 use Prim.Native.Nat.{ℕ, _-_, _≤_}
 use borrow.Author.Needs.{needs}
 use native.Mathlib.Omega.{arith}
@@ -13,8 +13,8 @@ use Rattle.tracker.specs.Lists.{Found, Prepared, Places, Low}
 use Rattle.tracker.proofs.Calls.{Ready, step-none}
 use Rattle.tracker.proofs.Placing.{places-fit, listed-places}
 use Rattle.tracker.proofs.Cycling.{low-codes, put-size, put-low, settled-bytes, settled-prepared, list-size}
-use Rattle.tracker.proofs.listed.work_out_listed.Statement.{statement}
-use Rattle.tracker.proofs.listed.work_out_listed.Tie as tie
+use Rattle.tracker.proofs.running.work_out_listed.Statement.{statement}
+use Rattle.tracker.proofs.running.work_out_listed.Tie as tie
 
 module _ (c : tie.Start) where
   ready : Ready (c .args .image .now) (c .args .state .now) (sizesOf (c .args .image .now) .inputs) (c .args .row .now)

@@ -1,4 +1,4 @@
--- `tracker::listed::list_kinds` meets its contract: each list leaves those before it.
+-- `tracker::lists::list_kinds` meets its contract: each list leaves those before it.
 use Prim.Native.Nat.{ℕ, _+_, _-_, _≤_}
 use mathlib.Core.List.{List, _++_}
 use borrow.Author.Needs.{needs}
@@ -10,8 +10,8 @@ use borrow.Rule.Slice.PartMut.{postOf, putMid, same-len-mid, mid-len}
 use Rattle.netlist.specs.Image.{sizesOf}
 use Rattle.netlist.proofs.Checked.{Checked, check-none}
 use Rattle.tracker.proofs.Parting.{parts-are}
-use Rattle.tracker.proofs.listed.list_kinds.Statement.{statement}
-use Rattle.tracker.proofs.listed.list_kinds.Tie as tie
+use Rattle.tracker.proofs.lists.list_kinds.Statement.{statement}
+use Rattle.tracker.proofs.lists.list_kinds.Tie as tie
 
 checked : (c : tie.Start) → Checked (c .args .image .now)
 checked c = check-none _ .0 (c .pre .0)
