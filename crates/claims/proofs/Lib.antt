@@ -1,5 +1,5 @@
 -- The theorems. In `Examples`: examples. In `Gates`: mux-composed, gates-monotone. In `Accepted`: when-accepted. In `Unchanged`: unchanged.
--- In `NetBytes`: net-bytes. In `Verdicts`: verdicts, first-flows. In `Steps`: run-is-steps.
+-- In `NetBytes`: net-bytes, ruled-bytes. In `Verdicts`: verdicts, first-flows. In `Steps`: run-is-steps.
 -- In `DoubledImage`: doubled-checks, doubling-writes, doubled-reads, doubled-placed, doubled-unseen. In `Pairing`: demand2. In `TwoRun`: demand3.
 pub mod Examples
 pub mod Gates

@@ -8,13 +8,15 @@ use lib.ListN.{length, getD, drop}
 use lib.Seq.{getD-drop}
 use Rattle.gates.specs.Rules.{gateByte}
 use Rattle.netlist.specs.declared.image.Net.{Net}
-use Rattle.netlist.specs.Image.{sizesOf, netsOf, count}
+use Rattle.netlist.specs.Image.{sizesOf, net, netsOf, count}
 use Rattle.netlist.proofs.Nets.{net-in}
 use Rattle.netlist.proofs.Checked.{Passes, is-const, is-input, is-reg, is-not, is-and, is-or, is-xor, is-mux, is-out, Checked, check-none, length-nets, net-passes}
 use Rattle.tracker.specs.Cycle.{pinByte, netByte, clocked, cycleOf}
 use Rattle.tracker.proofs.Selections.{Selection, outputs-selected, registers-selected, selection-length, place-below, selection-place}
 use Rattle.tracker.proofs.Walks.{WorkedOut, bytes-length, worked-out}
-use Rattle.claims.specs.NetBytes.{netOf, placeOf, Counted, HasByte, const, input, reg, not, and, or, xor, mux, out, NetBytesAll}
+use Rattle.tracker.proofs.Ruling as ruling
+use Rattle.tracker.proofs.Ruling.{sight, out-passes-on}
+use Rattle.claims.specs.NetBytes.{netOf, placeOf, Counted, HasByte, const, input, reg, not, and, or, xor, mux, out, NetBytesAll, RuledBytesAll}
 
 -- the first of what is left of a list
 first-left : (l : List ℕ) (n : ℕ) {r : List ℕ} → r ≡ drop n l → getD l n 0 ≡ getD r 0 0
@@ -58,3 +60,28 @@ net-bytes s row st a inputs registers =
       registers = selection-length (registers-selected _) 0 (netsOf s) ∙ sym (c .registers);
       clock = λ i h e. selected i h (registers-selected _) e;
     }
+
+-- the byte that a net may have is the one that its rule gives it
+by-rule : {s row st bs : List ℕ} {i : ℕ} {x : Net} {b : ℕ} → HasByte s row st bs i x b → b ≡ netByte gateByte x (sight (netsOf s) row st bs i)
+unfolding netByte pinByte gateByte
+by-rule (const l) = refl
+by-rule {row = row} (input c) = sym (c .byte) ∙ first-left row _ refl
+by-rule {st = st} (reg l c) = sym (c .byte) ∙ first-left st _ refl
+by-rule (not l) = refl
+by-rule (and l m) = refl
+by-rule (or l m) = refl
+by-rule (xor l m) = refl
+by-rule (mux l m o) = refl
+by-rule (out l) = refl
+
+pub ruled-bytes : RuledBytesAll
+unfolding cycleOf
+ruled-bytes s row st bs a size has =
+    ruling.ruled-bytes out-passes-on (check-none s .0 a .nets) row st
+    (record {
+      size = size ∙ sym (length-nets s);
+      byte = λ i d h.
+          let l : i < sizesOf s .nets = omega (arith, length-nets s) in
+          rw (net-in s _ i d refl l ∙ sym (net-in s _ i (net 0 0 0 0) refl l)) (by-rule (has i l));
+    })
+    (net 0 0 0 0)

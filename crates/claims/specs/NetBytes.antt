@@ -57,3 +57,11 @@ abbrev pub NetBytesAll : Type 0
 NetBytesAll =
     (s row st : List ℕ) → checkRefusal s ≡ none → length row ≡ sizesOf s .inputs → length st ≡ sizesOf s .registers
     → NetBytes s row st (cycleOf (netsOf s) row st)
+
+-- and no other bytes are such: N bytes of which each is the one that its net may have are the bytes of the cycle, in whatever order they were worked out.
+-- Proved as `ruled-bytes`
+abbrev pub RuledBytesAll : Type 0
+RuledBytesAll =
+    (s row st bs : List ℕ) → checkRefusal s ≡ none → length bs ≡ sizesOf s .nets
+    → ((i : ℕ) → i < sizesOf s .nets → HasByte s row st bs i (netOf s i) (getD bs i 0))
+    → bs ≡ cycleOf (netsOf s) row st .bytes
