@@ -1,5 +1,5 @@
 -- A net whose operands lie below their limits passes.
-use Prim.Native.Nat.{ℕ, zero, suc, _+_, _*_, _<_}
+use Prim.Native.Nat.{ℕ, zero, suc, _+_, _<_}
 use native.Mathlib.Omega.{arith}
 use mathlib.Core.Path.{_≡_, refl}
 use mathlib.Core.Bool.{Bool, true, false}
@@ -12,7 +12,7 @@ use Rattle.gates.proofs.Entries.{entry}
 use Rattle.netlist.specs.declared.image.Net.{Net}
 use Rattle.netlist.specs.Image.{net}
 use Rattle.netlist.specs.Check.{netRefusal}
-use Rattle.netlist.specs.Limits.{limits, limitPlaces, limitAt, withinLimits}
+use Rattle.netlist.specs.Limits.{limitsOf, limitPlaces, limitAt, withinLimits}
 use Rattle.netlist.proofs.Checked.{Passes, is-const, is-input, is-reg, is-not, is-and, is-or, is-xor, is-mux, is-out, no-refusal}
 
 true-is : (b : Bool) → T b → b ≡ true
@@ -29,7 +29,8 @@ under-one : (a : ℕ) → ltb a 1 ≡ true → a ≡ 0
 under-one a h = omega (arith, ltb-true a 1 h)
 
 by-limits : (n i k a b c : ℕ) → k < 9
-    → ((ltb a (limitAt (limits n i) (3 * k)) ≡ true) × (ltb b (limitAt (limits n i) (3 * k + 1)) ≡ true)) × (ltb c (limitAt (limits n i) (3 * k + 2)) ≡ true)
+    → let ls = limitsOf n i in
+    ((ltb a (limitAt ls k) ≡ true) × (ltb b (limitAt ls (9 + k)) ≡ true)) × (ltb c (limitAt ls (18 + k)) ≡ true)
     → Passes n i (net k a b c)
 unfolding limitPlaces
 by-limits n i zero a b c h t = rw (under-one b (t .0 .1), under-one c (t .1)) (is-const {a = a} (omega (arith, ltb-true a 2 (t .0 .0))))
@@ -43,7 +44,7 @@ by-limits n i (suc (suc (suc (suc (suc (suc (suc zero))))))) a b c h t = is-mux 
 by-limits n i (suc (suc (suc (suc (suc (suc (suc (suc zero)))))))) a b c h t = rw (under-one c (t .1)) (is-out {a = a} {b = b} (ltb-true a i (t .0 .0)) (omega (arith, ltb-true b 2 (t .0 .1))))
 by-limits n i (suc (suc (suc (suc (suc (suc (suc (suc (suc k))))))))) a b c h t = absurd (omega arith)
 
-pub within-passes : (n i : ℕ) (x : Net) → x .kind < 9 → withinLimits n i x ≡ true → netRefusal n i x ≡ none
+pub within-passes : (n i : ℕ) (x : Net) → x .kind < 9 → withinLimits (limitsOf n i) x ≡ true → netRefusal n i x ≡ none
 unfolding withinLimits
 within-passes n i x h t =
     let u = both _ _ t in

@@ -171,7 +171,7 @@ check-none s = (
 )
 
 -- the nets of an image are as many as it says
-nets-length : (s : List ℕ) (n i k : ℕ) → length (netsFrom s n i k) ≡ k
+pub nets-length : (s : List ℕ) (n i k : ℕ) → length (netsFrom s n i k) ≡ k
 unfolding netsFrom
 nets-length s n i zero = refl
 nets-length s n i (suc k) = ap suc (nets-length s n (suc i) k)

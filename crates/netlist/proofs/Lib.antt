@@ -6,4 +6,5 @@ pub mod Checked
 pub mod Encoding
 pub mod Written
 pub mod Below
+pub mod Counting
 mod Views

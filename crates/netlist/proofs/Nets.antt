@@ -1,7 +1,7 @@
 -- The nets of an image, one after the other: what a pass over them has before it at net i.
 use Prim.Native.Nat.{ℕ, zero, suc, _+_, _-_, _<_}
 use mathlib.Core.Path.{_≡_, ap, _∙_}
-use mathlib.Core.List.{List, [], _∷_}
+use mathlib.Core.List.{List, [], _∷_, _++_}
 use native.Mathlib.Numerals.{add-one}
 use native.Mathlib.Nat.{zero-add, add-zero}
 use native.Mathlib.Omega.{arith}
@@ -24,6 +24,14 @@ module _ (s : List ℕ) (n : ℕ) where
   pub nets-done : (i : ℕ) → n - i ≡ 0 → netsLeft s n i ≡ []
   unfolding netsFrom
   nets-done i e = rw e
+
+-- one more of them
+pub nets-more : (s : List ℕ) (n i k : ℕ) → netsFrom s n i (suc k) ≡ netsFrom s n i k ++ (netAt s n (i + k) ∷ [])
+unfolding netsFrom
+nets-more s n i zero = rw add-zero
+nets-more s n i (suc k) =
+    let e : i + suc k ≡ suc i + k = omega arith in
+    rw e (ap (λ (xs : List Net). netAt s n i ∷ xs) (nets-more s n (suc i) k))
 
 -- net i among them
 net-from : (s : List ℕ) (n i k j : ℕ) (d : Net) → j < k → getD (netsFrom s n i k) j d ≡ netAt s n (i + j)

@@ -5,3 +5,4 @@ pub mod Check
 pub mod View
 pub mod Writing
 pub mod Limits
+pub mod Counts

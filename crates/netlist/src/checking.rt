@@ -1,10 +1,8 @@
 // Checking: refusals 1 to 8, in one pass over the nets.
 use crate::answer::Outcome;
 use crate::answer::refused;
-use crate::image::Sizes;
 use crate::limits::limit_places;
 use crate::net::check_net;
-use crate::net::one_if;
 use crate::view::net_of;
 use crate::view::sizes_of;
 use gates::INPUT;
@@ -14,33 +12,43 @@ ghost use mathlib.Core.Path.{_≡_};
 ghost use Prim.Native.Nat.{_+_, _*_, _≤_};
 ghost use lib.ListN.{length};
 ghost use Rattle.netlist.specs.Image.{sizesOf, netsOf};
+ghost use Rattle.netlist.specs.Counts.{kindCounts};
 ghost use Rattle.netlist.specs.Check.{refuse, refusalIn, _then_, netsRefusal, wrongCounts, checkRefusal};
 
-// Refusals 4 to 8 of an image whose length is right.
-fn check_nets(s: &[u8], z: Sizes) -> Outcome
-    requires { ⌜ z ≡ sizesOf (now s) ⌝ }
-    requires { ⌜ (z .nets ≤ 8192) × (length (now s) ≡ 8 + 7 * z .nets) ⌝ }
-    ensures { λ r. ⌜ refusalIn r
-        ≡ (netsRefusal (z .nets) 0 (netsOf (now (s .entry))) then refuse (wrongCounts (now (s .entry))) 8 0) ⌝ }
+// 8: I, R or O is not the number of nets of its kind, where the nets are counted by kind.
+fn wrong_counts(s: &[u8], counts: &[usize; 9]) -> bool
+    requires { ⌜ (8 ≤ length (now s)) × (now counts ≡ kindCounts (netsOf (now s))) ⌝ }
+    ensures { λ r. ⌜ r ≡ wrongCounts (now (s .entry)) ⌝ }
 {
-    let n = z.nets;
+    let z = sizes_of(s);
+    (z.inputs != counts[INPUT as usize])
+        | (z.registers != counts[REG as usize])
+        | (z.outputs != counts[OUT as usize])
+}
+
+// Refusals 4 to 8 of an image of n nets whose length is right. At net i, `limits` are those of its operands, among which only the net's own
+// number changes from net to net, and `counts` has the nets before it, by kind.
+fn check_nets(s: &[u8], n: usize) -> Outcome
+    requires { ⌜ (n ≡ sizesOf (now s) .nets) × (n ≤ 8192) × (length (now s) ≡ 8 + 7 * n) ⌝ }
+    ensures { λ r. ⌜ refusalIn r
+        ≡ (netsRefusal n 0 (netsOf (now (s .entry))) then refuse (wrongCounts (now (s .entry))) 8 0) ⌝ }
+{
     let places = limit_places();
-    let mut inputs: usize = 0;
-    let mut registers: usize = 0;
-    let mut outputs: usize = 0;
+    let mut limits = [1, 2, 3, 0, n];
+    let mut counts = [0usize; 9];
     let mut i: usize = 0;
     while i < n {
         let x = net_of(s, i);
-        let o = check_net(&places, n, i, x);
+        let o = check_net(&places, &limits, n, i, x);
         if let Outcome::Refused(r) = o {
             return Outcome::Refused(r);
         }
-        inputs += one_if(x.kind == INPUT);
-        registers += one_if(x.kind == REG);
-        outputs += one_if(x.kind == OUT);
+        let kind = x.kind as usize;
+        counts[kind] += 1;
         i += 1;
+        limits[3] = i;
     }
-    if (z.inputs != inputs) | (z.registers != registers) | (z.outputs != outputs) {
+    if wrong_counts(s, &counts) {
         return refused(8, 0);
     }
     Outcome::Done
@@ -60,5 +68,5 @@ pub fn check(image: &[u8]) -> Outcome
     if image.len() != 8 + 7 * z.nets {
         return refused(3, 0);
     }
-    check_nets(image, z)
+    check_nets(image, z.nets)
 }

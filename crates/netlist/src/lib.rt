@@ -13,7 +13,6 @@ pub use answer::refused;
 pub use checking::check;
 pub use image::Net;
 pub use image::Sizes;
-pub use image::operand_at;
 pub use view::View;
 pub use view::kind_of;
 pub use view::net_of;

@@ -4,17 +4,11 @@ ghost use mathlib.Core.Path.{_≡_};
 ghost use Prim.Native.Nat.{_<_};
 ghost use Rattle.netlist.specs.Limits.{limitPlaces, limitAt, withinLimits};
 
-// For kinds 0 to 8, and operands a, b and c: which of the limits 1, 2, 3, the net's own number and N the operand lies below.
+// For operands a, b and c, and in each row for kinds 0 to 8: which of the limits 1, 2, 3, the net's own number and N the operand lies below.
 const LIMIT_PLACES: [u8; 27] = *b"\
-    \x01\x00\x00\
-    \x00\x00\x00\
-    \x04\x02\x00\
-    \x03\x00\x00\
-    \x03\x03\x00\
-    \x03\x03\x00\
-    \x03\x03\x00\
-    \x03\x03\x03\
-    \x03\x01\x00\
+    \x01\x00\x04\x03\x03\x03\x03\x03\x03\
+    \x00\x00\x02\x00\x03\x03\x03\x03\x01\
+    \x00\x00\x00\x00\x00\x00\x00\x03\x00\
     ";
 
 // The table by value. It is taken once a call, since a constant is copied to the stack wherever it is named.
@@ -32,14 +26,13 @@ fn limit(places: &[u8; 27], limits: &[usize; 5], p: usize) -> usize
     limits[places[p] as usize]
 }
 
-// Whether each operand of net i of n lies below its limit.
-pub fn within(places: &[u8; 27], n: usize, i: usize, x: Net) -> bool
+// Whether each operand of a net lies below its limit.
+pub fn within(places: &[u8; 27], limits: &[usize; 5], x: Net) -> bool
     requires { ⌜ (now places ≡ limitPlaces) × (x .kind < 9) ⌝ }
-    ensures { λ r. ⌜ r ≡ withinLimits n i x ⌝ }
+    ensures { λ r. ⌜ r ≡ withinLimits (now (limits .entry)) x ⌝ }
 {
-    let limits = [1, 2, 3, i, n];
-    let p = 3 * (x.kind as usize);
-    (x.a < limit(places, &limits, p))
-        & (x.b < limit(places, &limits, p + 1))
-        & (x.c < limit(places, &limits, p + 2))
+    let kind = x.kind as usize;
+    (x.a < limit(places, limits, kind))
+        & (x.b < limit(places, limits, 9 + kind))
+        & (x.c < limit(places, limits, 18 + kind))
 }

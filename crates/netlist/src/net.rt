@@ -11,10 +11,8 @@ use gates::NOT;
 use gates::OUT;
 use gates::REG;
 ghost use mathlib.Core.Path.{_≡_};
-ghost use mathlib.Core.Bool.{cond};
-ghost use Prim.Native.Nat.{_≤_};
 ghost use Rattle.netlist.specs.Check.{refusalIn, badPin, badValue, badUnlisted, netRefusal};
-ghost use Rattle.netlist.specs.Limits.{limitPlaces};
+ghost use Rattle.netlist.specs.Limits.{limitsOf, limitPlaces};
 
 // 5: a REG pin that is not below N, or another pin that is not below its net.
 fn bad_pin(n: usize, i: usize, x: Net) -> bool
@@ -66,21 +64,14 @@ fn refuse_net(n: usize, i: usize, x: Net) -> Outcome
 }
 
 // Refusals 4 to 7 at net i of n. Most nets pass by the limits of their operands alone.
-pub fn check_net(places: &[u8; 27], n: usize, i: usize, x: Net) -> Outcome
-    requires { ⌜ now places ≡ limitPlaces ⌝ }
+pub fn check_net(places: &[u8; 27], limits: &[usize; 5], n: usize, i: usize, x: Net) -> Outcome
+    requires { ⌜ (now places ≡ limitPlaces) × (now limits ≡ limitsOf n i) ⌝ }
     ensures { λ r. ⌜ refusalIn r ≡ netRefusal n i x ⌝ }
 {
     if x.kind < 9 {
-        if within(places, n, i, x) {
+        if within(places, limits, x) {
             return Outcome::Done;
         }
     }
     refuse_net(n, i, x)
-}
-
-// 1 where the flag is set, and 0 where not.
-pub fn one_if(flag: bool) -> usize
-    ensures { λ r. ⌜ (r ≡ cond flag 1 0) × (r ≤ 1) ⌝ }
-{
-    flag as usize
 }

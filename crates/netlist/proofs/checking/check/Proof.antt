@@ -1,11 +1,12 @@
 -- `netlist::checking::check` meets its contract: each test that fails leaves the rest of the chain of refusals.
 use Prim.Native.Nat.{ℕ, _≤_}
-use mathlib.Core.Path.{_≡_}
+use mathlib.Core.Path.{_≡_, ap}
 use mathlib.Core.Bool.{Bool, true, false, _||_}
 use native.Mathlib.Omega.{arith}
 use borrow.Author.Needs.{needs}
 use borrow.Author.Tests.{lt-ltb, le-ltb, eq-eqb, ne-eqb}
 use lib.Dec.{eqb, ltb}
+use Rattle.netlist.specs.declared.image.Sizes.{Sizes}
 use Rattle.netlist.specs.Check.{checkRefusal}
 use Rattle.netlist.proofs.Refusals.{accepted}
 use Rattle.netlist.proofs.checking.check.Statement.{statement}
@@ -51,7 +52,7 @@ at-most c = let t = simp accepted at (not-2 c) in t .1
 check-nets-requires : tie.Need-check-nets-requires
 check-nets-requires c κs =
     let few = c .before .before in
-    (few .before .before .before .sizes-of .ensures, (at-most few, c .if3 .left))
+    (ap (λ (z : Sizes). z .nets) (few .before .before .before .sizes-of .ensures), at-most few, c .if3 .left)
 
 pub check-spec : {M : Type 1} → statement M
 check-spec =

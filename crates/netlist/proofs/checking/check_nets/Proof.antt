@@ -1,159 +1,152 @@
--- `netlist::checking::check_nets` meets its contract. At net i, what refuses the nets is what refuses those that are left, and each count
--- is what was counted and what is left of it.
-use Prim.Native.Nat.{ℕ, _+_, _-_, _≤_}
+-- `netlist::checking::check_nets` meets its contract. At net i, what refuses the nets is what refuses those that are left, the limits are
+-- those of net i, and the nets before it are counted.
+use Prim.Native.Nat.{ℕ, suc, _+_, _-_, _≤_, _<_}
 use mathlib.Core.Path.{_≡_, refl, sym, ap, _∙_}
 use mathlib.Core.List.{List, [], _∷_}
 use mathlib.Core.Option.{Option, none, some}
-use mathlib.Core.Bool.{Bool, true, false, _||_, not, cond}
 use native.Mathlib.Numerals.{add-one}
+use native.Mathlib.Nat.{zero-add}
 use native.Mathlib.Omega.{arith}
 use borrow.Author.Needs.{needs}
-use lib.Dec.{eqb}
-use Rattle.gates.specs.Kinds.{INPUT, REG, OUT}
-use Rattle.netlist.specs.declared.image.Sizes.{Sizes}
+use lib.ListN.{getD, set}
 use Rattle.netlist.specs.declared.image.Net.{Net}
-use Rattle.netlist.specs.Image.{sizesOf, netsOf, count}
 use Rattle.netlist.specs.declared.answer.Refusal.{Refusal}
-use Rattle.netlist.specs.Check.{refuse, refusalIn, _then_, netRefusal, netsRefusal, wrongCounts}
-use Rattle.netlist.proofs.Nets.{netsLeft, nets-next, nets-done, nets-left}
+use Rattle.netlist.specs.Image.{sizesOf, netAt, netsFrom, netsOf, count}
+use Rattle.netlist.specs.Limits.{limitsOf}
+use Rattle.netlist.specs.Counts.{kindCounts}
+use Rattle.netlist.specs.Check.{refusalIn, _then_, netRefusal, netsRefusal}
+use Rattle.netlist.proofs.Nets.{netsLeft, nets-next, nets-more, nets-done, nets-left}
+use Rattle.netlist.proofs.Checked.{passes, kind-most, nets-length, count-most}
+use Rattle.netlist.proofs.Counting.{raised, count-at, counts-raised}
 use Rattle.netlist.proofs.checking.check_nets.Statement.{statement}
 use Rattle.netlist.proofs.checking.check_nets.Tie as tie
 
--- with ys left of xs, the first of which is net i
-record Left (n : ℕ) (xs ys : List Net) (inputs registers outputs i : ℕ) : Type 0 where
-  refusal : netsRefusal n 0 xs ≡ netsRefusal n i ys
-  of-inputs : count INPUT xs ≡ inputs + count INPUT ys
-  of-registers : count REG xs ≡ registers + count REG ys
-  of-outputs : count OUT xs ≡ outputs + count OUT ys
+-- at net i of n, with the limits ls and the nets before it counted
+record Turn (s : List ℕ) (n : ℕ) (ls counts : List ℕ) (i : ℕ) : Type 0 where
+  most : i ≤ n
+  refusal : netsRefusal n 0 (netsOf s) ≡ netsRefusal n i (netsLeft s n i)
+  limits : ls ≡ limitsOf n i
+  counted : counts ≡ kindCounts (netsFrom s n 0 i)
 
-begins : (n : ℕ) (xs : List Net) → Left n xs xs 0 0 0 0
-begins n xs = record { refusal = refl; of-inputs = omega arith; of-registers = omega arith; of-outputs = omega arith }
+begins : (s : List ℕ) (n : ℕ) → n ≡ sizesOf s .nets → Turn s n (limitsOf n 0) (0 ∷ 0 ∷ 0 ∷ 0 ∷ 0 ∷ 0 ∷ 0 ∷ 0 ∷ 0 ∷ []) 0
+unfolding netsFrom kindCounts count
+begins s n h = record { most = omega arith; refusal = rw (nets-left s n h); limits = refl; counted = refl }
 
-module _ {n : ℕ} {xs ys : List Net} {x : Net} {inputs registers outputs i : ℕ} (l : Left n xs (x ∷ ys) inputs registers outputs i) where
-  stops : (r : Refusal) (q : Option Refusal) → netRefusal n i x ≡ some r → some r ≡ (netsRefusal n 0 xs then q)
+-- a count is at most as high as there are nets before net i
+few : {s : List ℕ} {n : ℕ} {ls counts : List ℕ} {i : ℕ} → Turn s n ls counts i → (k : ℕ) → k < 9 → getD counts k 0 ≤ i
+few {s} {n} {i = i} t k h =
+    let before = netsFrom s n 0 i in
+    rw (t .counted, count-at k before h) (omega (arith, count-most k before, nets-length s n 0 i))
+
+module _ {s : List ℕ} {n : ℕ} {ls counts : List ℕ} {i : ℕ} (t : Turn s n ls counts i) (h : i < n) {x : Net} (this : x ≡ netAt s n i) where
+  -- what refuses net i, and then what refuses the nets behind it
+  at-net : netsRefusal n 0 (netsOf s) ≡ (netRefusal n i x then netsRefusal n (suc i) (netsLeft s n (i + 1)))
   unfolding netsRefusal
-  stops r q h = rw (l .refusal, h)
+  at-net = t .refusal ∙ rw (this, nets-next s n i h)
 
-  goes-on : (k m o : ℕ) → netRefusal n i x ≡ none
-      → k ≡ cond (eqb (x .kind) INPUT) 1 0 → m ≡ cond (eqb (x .kind) REG) 1 0 → o ≡ cond (eqb (x .kind) OUT) 1 0
-      → Left n xs ys (inputs + k) (registers + m) (outputs + o) (i + 1)
-  unfolding netsRefusal count
-  goes-on k m o h hk hm ho =
+  stops : (r : Refusal) (q : Option Refusal) → netRefusal n i x ≡ some r → some r ≡ (netsRefusal n 0 (netsOf s) then q)
+  stops r q e = rw (at-net, e)
+
+  goes-on : netRefusal n i x ≡ none → Turn s n (set ls 3 (i + 1)) (raised counts (x .kind)) (i + 1)
+  goes-on pass =
+      let small : x .kind < 9 = omega (arith, kind-most (passes n i x pass)) in
       record {
-        refusal = l .refusal ∙ rw (h, add-one);
-        of-inputs = omega (arith, l .of-inputs);
-        of-registers = omega (arith, l .of-registers);
-        of-outputs = omega (arith, l .of-outputs);
+        most = omega arith;
+        refusal = at-net ∙ rw (pass, add-one);
+        limits = rw (t .limits);
+        counted = rw (t .counted, add-one i, nets-more s n 0 i, zero-add i, ← this) (counts-raised (netsFrom s n 0 i) x small);
       }
 
--- whether the counts differ from the sizes
-abbrev differ : Sizes → (inputs registers outputs : ℕ) → Bool
-differ z inputs registers outputs = not (eqb (z .inputs) inputs) || not (eqb (z .registers) registers) || not (eqb (z .outputs) outputs)
+-- with no net left
+module _ {s : List ℕ} {n : ℕ} {ls counts : List ℕ} {i : ℕ} (h : n ≡ sizesOf s .nets) (l : n ≤ i) (t : Turn s n ls counts i) where
+  all-pass : netsRefusal n 0 (netsOf s) ≡ none
+  unfolding netsRefusal
+  all-pass = t .refusal ∙ rw (nets-done s n i (omega arith))
 
--- with nothing left
-ends : {n : ℕ} (s : List ℕ) (z : Sizes) {inputs registers outputs i : ℕ} → z ≡ sizesOf s → Left n (netsOf s) [] inputs registers outputs i
-    → (netsRefusal n 0 (netsOf s) then refuse (wrongCounts s) 8 0)
-    ≡ refuse (differ z inputs registers outputs) 8 0
-unfolding netsRefusal count
-ends s z {inputs} {registers} {outputs} h l =
-    let a : count INPUT (netsOf s) ≡ inputs = omega (arith, l .of-inputs) in
-    let b : count REG (netsOf s) ≡ registers = omega (arith, l .of-registers) in
-    let c : count OUT (netsOf s) ≡ outputs = omega (arith, l .of-outputs) in
-    rw (l .refusal, a, b, c, h)
+  all-counted : counts ≡ kindCounts (netsOf s)
+  unfolding netsOf
+  all-counted =
+      let e : i ≡ sizesOf s .nets = omega (arith, t .most) in
+      t .counted ∙ rw (e, h)
 
 abbrev Inv-loop : tie.InvT-loop
-Inv-loop s z n places inputs₀ registers₀ outputs₀ i₀ inputs registers outputs i =
-    (i ≤ n) × (inputs ≤ i) × (registers ≤ i) × (outputs ≤ i) × Left n (netsOf s) (netsLeft s n i) inputs registers outputs i
+Inv-loop s n places limits₀ counts₀ i₀ limits counts i = Turn s n limits counts i
 
 abbrev μ-loop : tie.MeasureT-loop
-μ-loop s z n places inputs₀ registers₀ outputs₀ i₀ inputs registers outputs i = n - i
-
-nets-are : (c : tie.Start Inv-loop μ-loop) → c .args .z .nets ≡ sizesOf (c .args .s .now) .nets
-nets-are c = ap (λ (z : Sizes). z .nets) (c .pre .0)
+μ-loop s n places limits₀ counts₀ i₀ limits counts i = n - i
 
 loop-holds : tie.Need-loop-holds Inv-loop μ-loop
-loop-holds c =
-    let start = c .before .before in
-    let args = start .args in (
-      omega arith,
-      omega arith,
-      omega arith,
-      omega arith,
-      rw (nets-left (args .s .now) (args .z .nets) (nets-are start)) (begins (args .z .nets) (netsOf (args .s .now))),
-    )
+loop-holds c = let start = c .before .before in begins _ _ (start .pre .0)
 
 net-of-requires : tie.Need-net-of-requires Inv-loop μ-loop
 net-of-requires c κs =
     let start = c .before .before .before .before in
-    rw (← nets-are start) (c .loop-test .taken, start .pre .1 .1)
+    rw (← start .pre .0) (c .loop-test .taken, start .pre .2)
 
--- at the head of a turn, the net is the first of those that are left
+check-net-requires : tie.Need-check-net-requires Inv-loop μ-loop
+check-net-requires c κs =
+    let at = c .before .before .before .before in
+    (at .before .limit-places .ensures, at .loop .inv .limits)
+
+-- the net of a turn
 this-net : (c : tie.After-net-of Inv-loop μ-loop)
     → let at = c .before .before in
     let args = at .before .before .before .args in
-    Left (args .z .nets) (netsOf (args .s .now)) (c .net-of .result ∷ netsLeft (args .s .now) (args .z .nets) (at .loop .i + 1))
-    (at .loop .inputs) (at .loop .registers) (at .loop .outputs) (at .loop .i)
+    c .net-of .result ≡ netAt (args .s .now) (args .n) (at .loop .i)
 this-net c =
-    let at = c .before .before in
-    let start = at .before .before .before in
-    let args = start .args in
-    rw (c .net-of .ensures, ← nets-are start, ← nets-next (args .s .now) (args .z .nets) (at .loop .i) (c .before .loop-test .taken)) (at .loop .inv .4)
-
-check-net-requires : tie.Need-check-net-requires Inv-loop μ-loop
-check-net-requires c κs = c .before .before .before .before .limit-places .ensures
+    let start = c .before .before .before .before .before in
+    rw (start .pre .0) (c .net-of .ensures)
 
 returns : tie.Need-returns Inv-loop μ-loop
 returns c =
-    let known = c .before in
-    let checked = known .before .before in
-    stops (this-net (checked .before .before)) _ _ (sym (checked .check-net .ensures) ∙ ap refusalIn (known .o .given .1))
+    let checked = c .before .before .before in
+    let read = checked .before .before .before in
+    stops (read .before .before .loop .inv) (read .before .loop-test .taken) (this-net read) _ _
+    (sym (checked .check-net .ensures) ∙ ap refusalIn (c .before .o .given .1))
+
+-- a net that passed
+passed : (c : tie.After-enum-told Inv-loop μ-loop)
+    → let checked = c .before .before in
+    let read = checked .before .before .before in
+    let at = read .before .before in
+    netRefusal (at .before .before .before .args .n) (at .loop .i) (read .net-of .result) ≡ none
+passed c = sym (c .before .before .check-net .ensures) ∙ ap refusalIn (c .enum-told .given .1)
 
 loop-again : tie.Need-loop-again Inv-loop μ-loop
 loop-again c =
-    let registers = c .before .before in
-    let inputs = registers .before .before in
-    let told = inputs .before .before in
-    let checked = told .before .before in
-    let passes = sym (checked .check-net .ensures) ∙ ap refusalIn (told .enum-told .given .1) in
-    let k = inputs .one-if .ensures in
-    let m = registers .one-if2 .ensures in
-    let o = c .one-if3 .ensures in
-    (omega arith, omega arith, omega arith, omega arith, goes-on (this-net (checked .before .before)) _ _ _ passes (k .0) (m .0) (o .0))
+    let read = c .before .before .before .before .before .before in
+    goes-on (read .before .before .loop .inv) (read .before .loop-test .taken) (this-net read) (passed (c .before))
 
--- after the last turn, all that is left is to compare the counts
-compares : (c : tie.After-loop Inv-loop μ-loop)
-    → let at = c .before .loop in
-    let args = c .before .before .before .before .args in
-    (netsRefusal (args .z .nets) 0 (netsOf (args .s .now)) then refuse (wrongCounts (args .s .now)) 8 0)
-    ≡ refuse (differ (args .z) (at .inputs) (at .registers) (at .outputs)) 8 0
-compares c =
-    let at = c .before .loop in
-    let start = c .before .before .before .before in
-    let s = start .args .s .now in
-    let n = start .args .z .nets in
-    let l : Left n (netsOf s) [] (at .inputs) (at .registers) (at .outputs) (at .i) = rw (nets-done s n (at .i) (omega arith)) at (at .inv .4) in
-    ends s (start .args .z) (start .pre .0) l
+-- its place among the counts, and the count there
+small : (c : tie.After-enum-told Inv-loop μ-loop) → c .before .before .before .before .before .net-of .result .kind < 9
+small c = omega (arith, kind-most (passes _ _ _ (passed c)))
 
--- the last test, as the flag that was tested
-counts-differ : (c : tie.After-struct-known6 Inv-loop μ-loop) → Bool
-counts-differ c =
-    let looped = c .before .before .before in
-    let at = looped .before .loop in
-    differ (looped .before .before .before .before .args .z) (at .inputs) (at .registers) (at .outputs)
+add-counts : tie.Need-add-counts Inv-loop μ-loop
+add-counts c =
+    let at = c .before .before .before .before .before .before .before .before in
+    omega (arith, few (at .loop .inv) _ (small (c .before)))
+
+wrong-counts-requires : tie.Need-wrong-counts-requires Inv-loop μ-loop
+wrong-counts-requires c κs =
+    let at = c .before .before in
+    let start = at .before .before .before in
+    (omega (arith, start .pre .2), all-counted (start .pre .0) (c .before .loop-test .left) (at .loop .inv))
+
+-- after the last turn
+none-refused : (c : tie.After-loop Inv-loop μ-loop)
+    → let args = c .before .before .before .before .args in
+    netsRefusal (args .n) 0 (netsOf (args .s .now)) ≡ none
+none-refused c = all-pass (c .before .before .before .before .pre .0) (c .loop-test .left) (c .before .loop .inv)
 
 returns-2 : tie.Need-returns-2 Inv-loop μ-loop
-unfolding counts-differ
 returns-2 c =
     let tested = c .before .before in
-    let wrong : counts-differ tested ≡ true = c .before .if1 .taken in
-    rw (compares (tested .before .before .before), wrong) (c .refused .ensures)
+    rw (none-refused (tested .before .before), ← tested .wrong-counts .ensures, c .before .if1 .taken) (c .refused .ensures)
 
 returns-3 : tie.Need-returns-3 Inv-loop μ-loop
-unfolding counts-differ
 returns-3 c =
     let tested = c .before in
-    let right : counts-differ tested ≡ false = c .if1 .left in
-    rw (compares (tested .before .before .before), right)
+    rw (none-refused (tested .before .before), ← tested .wrong-counts .ensures, c .if1 .left)
 
 pub check-nets-spec : {M : Type 1} → statement M
 check-nets-spec =
@@ -168,15 +161,16 @@ check-nets-spec =
     (λ c. search needs)
     returns
     (λ c. search needs)
-    (λ c κs. search needs)
     (λ c. search needs)
-    (λ c κs. search needs)
-    (λ c. search needs)
-    (λ c κs. search needs)
+    (λ c. omega (arith, small (c .before)))
+    (λ c. small (c .before))
+    add-counts
+    (λ c. small (c .before))
     (λ c. search needs)
     (λ c. search needs)
     (λ c. search needs)
     loop-again
+    wrong-counts-requires
     (λ c κs. search needs)
     returns-2
     returns-3)

@@ -8,15 +8,14 @@ returns : tie.Need-returns
 unfolding withinLimits
 returns c =
     let third = c .before in
-    let second = third .before .before .before in
-    let first = second .before .before .before in
+    let second = third .before .before in
+    let first = second .before .before in
     rw (third .limit3 .ensures, second .limit2 .ensures, first .limit .ensures)
 
 pub within-spec : {M : Type 1} → statement M
 within-spec =
     tie.close
     (tie.spec
-    (λ c. search needs)
     (λ c. search needs)
     (λ c κs. search needs)
     (λ c. search needs)

@@ -8,7 +8,8 @@ use Rattle.netlist.proofs.net.check_net.Tie as tie
 returns : tie.Need-returns
 returns c =
     let tested = c .before in
-    sym (within-passes _ _ _ (tested .before .if1 .taken) (sym (tested .within .ensures) ∙ c .if2 .taken))
+    let start = tested .before .before .before in
+    sym (within-passes _ _ _ (tested .before .if1 .taken) (rw (start .pre .1) at (sym (tested .within .ensures) ∙ c .if2 .taken)))
 
 pub check-net-spec : {M : Type 1} → statement M
 check-net-spec = tie.close (tie.spec (λ c κs. search needs) returns (λ c κs. search needs) (λ c. search needs))
