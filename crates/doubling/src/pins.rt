@@ -2,6 +2,7 @@
 ghost use mathlib.Core.Path.{_≡_};
 ghost use Prim.Native.Nat.{_+_, _-_, _<_};
 ghost use lib.ListN.{getD};
+ghost use Rattle.doubling.specs.Passes.{PairFits};
 
 // The value net and the mark net of a net: the first and the last of its group.
 pub struct Pair {
@@ -10,7 +11,7 @@ pub struct Pair {
 }
 
 fn wide(x: u16) -> usize
-    ensures { λ r. ⌜ r ≡ x ⌝ }
+    ensures { λ r. ⌜ (r ≡ x) × (r < 65536) ⌝ }
 {
     x as usize
 }
@@ -18,7 +19,7 @@ fn wide(x: u16) -> usize
 // The value net and the mark net of net i: start i, and start i + 1 less 1.
 pub fn pair_of(starts: &[u16; 8193], i: usize) -> Pair
     requires { ⌜ (i < 8192) × (0 < getD (now starts) (i + 1) 0) ⌝ }
-    ensures { λ r. ⌜ (r .value ≡ getD (now (starts .entry)) i 0) × (r .mark ≡ getD (now (starts .entry)) (i + 1) 0 - 1) ⌝ }
+    ensures { λ r. ⌜ (r .value ≡ getD (now (starts .entry)) i 0) × (r .mark ≡ getD (now (starts .entry)) (i + 1) 0 - 1) × PairFits r ⌝ }
 {
     Pair {
         value: wide(starts[i]),

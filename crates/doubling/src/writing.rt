@@ -1,51 +1,38 @@
 // Writing the doubled netlist: its sizes, and then group after group in one pass over the nets.
-use crate::group::group_of;
+use crate::group::put_group;
 use crate::pins::pair_of;
-use netlist::Net;
 use netlist::Sizes;
 use netlist::net_of;
-use netlist::put_net;
 use netlist::put_sizes;
 ghost use mathlib.Core.Path.{_≡_};
 ghost use mathlib.Core.Option.{none};
-ghost use Prim.Native.Nat.{ℕ, _+_, _*_, _<_, _≤_};
-ghost use lib.ListN.{length, getD, take};
-ghost use Rattle.netlist.specs.Image.{sizesOf, net, kindAt, netAt, netsOf};
+ghost use Prim.Native.Nat.{_+_, _*_, _<_, _≤_};
+ghost use lib.ListN.{length};
+ghost use Rattle.netlist.specs.Image.{sizesOf, kindAt, netAt, netsOf};
 ghost use Rattle.netlist.specs.Check.{checkRefusal};
-ghost use Rattle.netlist.specs.Writing.{Fits, putNets};
+ghost use Rattle.netlist.specs.Writing.{putNets};
 ghost use Rattle.doubling.specs.Doubled.{groupLength, groupAt, doubledSize, valueNet, doubledNets, doubledImage};
-ghost use Rattle.doubling.specs.Passes.{Starts};
+ghost use Rattle.doubling.specs.Passes.{Starts, Room};
 
-// The group of net i, whose first net is v.
-fn group_at(image: &[u8], n: usize, starts: &[u16; 8193], i: usize, v: usize) -> [Net; 8]
+// The group of net i.
+fn put_group_at(d: &mut [u8], size: usize, image: &[u8], starts: &[u16; 8193], i: usize)
     requires { ⌜ checkRefusal (now image) ≡ none ⌝ }
-    requires { ⌜ (n ≡ sizesOf (now image) .nets) × (i < n) × Starts (now starts) (netsOf (now image)) ⌝ }
-    requires { ⌜ v ≡ valueNet (netsOf (now image)) i ⌝ }
-    ensures { λ r. ⌜ take (groupLength (kindAt (now (image .entry)) i)) r
-        ≡ groupAt (netsOf (now (image .entry))) i (netAt (now (image .entry)) n i) ⌝ }
+    requires { ⌜ (i < sizesOf (now image) .nets) × Starts (now starts) (netsOf (now image)) ⌝ }
+    requires { ⌜ Room (now d) size (valueNet (netsOf (now image)) i) (groupLength (kindAt (now image) i)) ⌝ }
+    ensures { λ r. ⌜ now (d .exit) ≡ putNets (now (d .entry)) size (valueNet (netsOf (now (image .entry))) i)
+        (groupAt (netsOf (now (image .entry))) i (netAt (now (image .entry)) (sizesOf (now (image .entry)) .nets) i)) ⌝ }
 {
+    let own = pair_of(starts, i);
     let x = net_of(image, i);
-    group_of(
-        v,
+    put_group(
+        d,
+        size,
+        own.value,
         x,
         pair_of(starts, x.a),
         pair_of(starts, x.b),
         pair_of(starts, x.c),
-    )
-}
-
-// The first k nets of a group, as the nets from v on of an image of n nets.
-fn put_group(d: &mut [u8], n: usize, v: usize, k: usize, group: [Net; 8])
-    requires { ⌜ (length (now d) ≡ 8 + 7 * n) × (v + k ≤ n) ⌝ }
-    requires { ⌜ (k ≤ 8) × (length (take k group) ≡ k) ⌝ }
-    requires { ⌜ ((j : ℕ) → j < k → Fits (getD group j (net 0 0 0 0))) ⌝ }
-    ensures { λ r. ⌜ now (d .exit) ≡ putNets (now (d .entry)) n v (take k group) ⌝ }
-{
-    let mut j: usize = 0;
-    while j < k {
-        put_net(d, n, v + j, group[j]);
-        j += 1;
-    }
+    );
 }
 
 // All groups.
@@ -57,10 +44,7 @@ fn put_groups(d: &mut [u8], size: usize, image: &[u8], n: usize, starts: &[u16; 
 {
     let mut i: usize = 0;
     while i < n {
-        let own = pair_of(starts, i);
-        let length = own.mark + 1 - own.value;
-        let group = group_at(image, n, starts, i, own.value);
-        put_group(d, size, own.value, length, group);
+        put_group_at(d, size, image, starts, i);
         i += 1;
     }
 }

@@ -1,19 +1,16 @@
 -- `doubling::writing::put_groups` meets its contract: at net i, the groups of the nets below it are written, and the others are left.
-use Prim.Native.Nat.{_+_, _*_, _-_, _≤_, _<_}
+use Prim.Native.Nat.{_*_, _+_, _-_, _≤_}
 use native.Mathlib.Omega.{arith}
-use mathlib.Core.Path.{_≡_, ap, sym, _∙_}
-use lib.ListN.{length, getD}
-use lib.Seq.{getD-take}
+use mathlib.Core.Path.{_≡_, sym, _∙_}
+use lib.ListN.{length}
 use borrow.Author.Needs.{needs}
-use Rattle.netlist.specs.Image.{kindAt, netAt, netsOf}
+use Rattle.netlist.specs.Image.{netsOf}
 use Rattle.netlist.specs.Writing.{putNets}
 use Rattle.netlist.proofs.Nets.{netsLeft, nets-left, nets-done}
-use Rattle.netlist.proofs.Checked.{Checked, check-none, net-passes}
-use Rattle.netlist.proofs.Encoding.{nothing}
-use Rattle.doubling.specs.Doubled.{groupLength, groupsFrom, valueNet, doubledNets}
-use Rattle.doubling.proofs.Positions.{two-to-eight, group-length}
-use Rattle.doubling.proofs.Sums.{start-positive, next-start, start-zero}
-use Rattle.doubling.proofs.Laying.{one-group, group-ends, group-fits}
+use Rattle.netlist.proofs.Checked.{Checked, check-none}
+use Rattle.doubling.specs.Doubled.{groupsFrom, valueNet, doubledNets}
+use Rattle.doubling.proofs.Sums.{start-zero}
+use Rattle.doubling.proofs.Laying.{one-group, group-ends}
 use Rattle.doubling.proofs.writing.put_groups.Statement.{statement}
 use Rattle.doubling.proofs.writing.put_groups.Tie as tie
 
@@ -35,92 +32,32 @@ loop-holds c =
     let s = begin .args .image .now in
     (omega arith, begin .pre .1 .1 .2, rw (nets-left s (begin .args .n) (begin .pre .1 .0 .0), start-zero (netsOf s)))
 
-pair-of-requires : tie.Need-pair-of-requires Inv-loop μ-loop
-pair-of-requires c κs =
-    let begin = c .before .before .before .before in
-    let few : c .before .loop .i < 8192 = omega (arith, c .loop-test .taken, begin .pre .1 .0 .0, checked begin .few-nets) in
-    (few, rw (begin .pre .1 .0 .1 (c .before .loop .i + 1) (omega arith)) (start-positive (checked begin) (c .before .loop .i)))
-
--- the group's first net, and its length
-first : (c : tie.After-pair-of Inv-loop μ-loop)
-    → let at = c .before .before in
-    c .pair-of .result .value ≡ valueNet (netsOf (at .before .before .before .args .image .now)) (at .loop .i)
-first c =
+put-group-at-requires : tie.Need-put-group-at-requires Inv-loop μ-loop
+put-group-at-requires c κs =
     let at = c .before .before in
     let begin = at .before .before .before in
-    c .pair-of .ensures .0 ∙ begin .pre .1 .0 .1 (at .loop .i) (omega (arith, c .before .loop-test .taken, begin .pre .1 .0 .0, checked begin .few-nets))
-
-end : (c : tie.After-pair-of Inv-loop μ-loop)
-    → let at = c .before .before in
-    let s = at .before .before .before .args .image .now in
-    c .pair-of .result .mark + 1 ≡ valueNet (netsOf s) (at .loop .i) + groupLength (kindAt s (at .loop .i))
-end c =
-    let at = c .before .before in
     let i = at .loop .i in
-    let begin = at .before .before .before in
     let h = c .before .loop-test .taken in
     let n = begin .pre .1 .0 .0 in
-    let start = begin .pre .1 .0 .1 (i + 1) (omega (arith, h, n, checked begin .few-nets)) in
-    omega (arith, c .pair-of .ensures .1, start, start-positive (checked begin) i, next-start (checked begin) i n h)
-
-add-length : tie.Need-add-length Inv-loop μ-loop
-add-length c =
-    let own = c .before in
-    let at = own .before .before in
-    let begin = at .before .before .before in
-    let size = begin .pre .1 .1 in
-    omega (arith, end own, group-ends (checked begin) (begin .pre .1 .0 .0) (at .loop .i) (own .before .loop-test .taken), size .0, size .1)
-
-sub-length : tie.Need-sub-length Inv-loop μ-loop
-sub-length c = let own = c .before .before in omega (arith, first own, end own)
-
-group-at-requires : tie.Need-group-at-requires Inv-loop μ-loop
-group-at-requires c κs =
-    let own = c .before .before in
-    let turn = own .before in
-    let begin = turn .before .before .before .before in
-    (begin .pre .0, ((begin .pre .1 .0 .0, turn .loop-test .taken, begin .pre .1 .0 .1), first own))
-
-nets : (c : tie.After-pair-of Inv-loop μ-loop)
-    → let at = c .before .before in
-    c .pair-of .result .mark + 1 - c .pair-of .result .value ≡ groupLength (kindAt (at .before .before .before .args .image .now) (at .loop .i))
-nets c = omega (arith, first c, end c)
-
-put-group-requires : tie.Need-put-group-requires Inv-loop μ-loop
-unfolding netAt
-put-group-requires c κs =
-    let made = c .before in
-    let own = made .before .before .before in
-    let at = own .before .before in
-    let begin = at .before .before .before in
-    let s = begin .args .image .now in
-    let i = at .loop .i in
-    let h = own .before .loop-test .taken in
-    let n = begin .pre .1 .0 .0 in
-    let size = begin .pre .1 .1 in
-    let group = made .group-at .ensures in
-    rw (nets own) (
-      (at .loop .inv .1, omega (arith, first own, group-ends (checked begin) n i h, size .0)),
+    let size = begin .pre .1 .1 in (
+      begin .pre .0,
       (
-        (two-to-eight (net-passes (checked begin) n i h) .1, ap length group ∙ group-length (netsOf s) i (netAt s (begin .args .n) i)),
-        λ j l.
-            let same = ap (λ g. getD g j nothing) (sym group) ∙ getD-take (groupLength (kindAt s i)) (made .group-at .result) j nothing l in
-            rw same at (group-fits (checked begin) n i h (omega (arith, size .0, size .1)) j l),
+        (rw (← n) h, begin .pre .1 .0 .1),
+        record { long = at .loop .inv .1; within = omega (arith, group-ends (checked begin) n i h, size .0); few = size .1 },
       ),
     )
 
 loop-again : tie.Need-loop-again Inv-loop μ-loop
 loop-again c =
     let put = c .before .before in
-    let made = put .before .before in
-    let own = made .before .before .before in
-    let at = own .before .before in
+    let turn = put .before .before in
+    let at = turn .before in
     let begin = at .before .before .before in
     let i = at .loop .i in
-    let h = own .before .loop-test .taken in
-    let left = at .loop .inv .2 ∙ one-group (checked begin) (begin .pre .1 .0 .0) i h (at .loop .d) (begin .args .size) in
-    let now = rw (nets own, first own, made .group-at .ensures) at (put .put-group .ensures) in
-    (omega (arith, h), put .put-group .kept .0 ∙ at .loop .inv .1, rw now left)
+    let h = turn .loop-test .taken in
+    let n = begin .pre .1 .0 .0 in
+    let left = at .loop .inv .2 ∙ one-group (checked begin) n i h (at .loop .d) (begin .args .size) in
+    (omega (arith, h), put .put-group-at .kept .0 ∙ at .loop .inv .1, rw (rw (← n) at (put .put-group-at .ensures)) left)
 
 same-length : tie.Need-same-length Inv-loop μ-loop
 same-length c = let at = c .before in at .loop .inv .1 ∙ sym (at .before .before .before .pre .1 .1 .2)
@@ -139,11 +76,7 @@ put-groups-spec =
     Inv-loop
     μ-loop
     loop-holds
-    pair-of-requires
-    add-length
-    sub-length
-    group-at-requires
-    put-group-requires
+    put-group-at-requires
     (λ c. search needs)
     (λ c. search needs)
     loop-again

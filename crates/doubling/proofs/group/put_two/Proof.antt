@@ -1,0 +1,21 @@
+-- `doubling::group::put_two` meets its contract: two nets, one by one.
+use borrow.Author.Needs.{needs}
+use Rattle.doubling.proofs.OneByOne.{done, next, first, together}
+use Rattle.doubling.proofs.group.put_two.Statement.{statement}
+use Rattle.doubling.proofs.group.put_two.Tie as tie
+
+returns : tie.Need-returns
+returns c =
+    let mark = c .before .before in
+    let value = mark .before .before .before .before in
+    together (first (value .put .ensures .0) (next (mark .put2 .ensures .0) done))
+
+pub put-two-spec : {M : Type 1} → statement M
+put-two-spec =
+    tie.close
+    (tie.spec
+    (λ c κs. search needs)
+    (λ c. search needs)
+    (λ c κs. search needs)
+    (λ c. search needs)
+    returns)
