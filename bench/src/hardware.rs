@@ -9,8 +9,9 @@ use std::io;
 use std::path::Path;
 
 use crate::cases::Bytes;
-use crate::generate::{image, Mix};
+use crate::generate::image;
 use crate::image::{nets_of, CONST, INPUT, MUX, NOT, OUT, REG};
+use crate::mix::Mix;
 use crate::peers::PEERS;
 use crate::verilog::{net, top, MuxAs};
 

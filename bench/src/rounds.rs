@@ -41,7 +41,14 @@ pub fn lowest(list: &[f64]) -> f64 {
 }
 
 /// The median of the ratios above / below, round by round.
-pub fn median_ratio(above: &[f64], below: &[f64]) -> f64 {
+fn median_ratio(above: &[f64], below: &[f64]) -> f64 {
     let ratios: Vec<f64> = above.iter().zip(below).map(|(a, b)| a / b).collect();
     median(&ratios)
+}
+
+/// The ratio of the lowest times above / below, and in brackets the median of the
+/// ratios within the rounds.
+pub fn ratio(above: &[f64], below: &[f64]) -> String {
+    let low = lowest(above) / lowest(below);
+    format!("{low:.2} ({:.2})", median_ratio(above, below))
 }
