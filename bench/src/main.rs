@@ -24,6 +24,7 @@ mod image;
 mod in_c;
 mod libraries;
 mod linear;
+mod listings;
 mod mix;
 mod once;
 #[cfg(other)]
@@ -59,14 +60,13 @@ fn main() {
         [table] if TABLES.contains(&table) => print_tables(&[table]),
         ["forms"] => print_forms(),
         ["count", ref what @ ..] => count(what),
-        ["netlist", mix, nets, seed, k, folder] => {
-            let written = hardware::write_files(
-                named_mix(mix),
-                number(nets),
-                number(seed) as u64,
-                number(k),
-                Path::new(folder),
-            );
+        [files @ ("netlist" | "listing"), mix, nets, seed, rows, folder] => {
+            let write = match files {
+                "netlist" => hardware::write_files,
+                _ => listings::write_files,
+            };
+            let (mix, nets, seed) = (named_mix(mix), number(nets), number(seed) as u64);
+            let written = write(mix, nets, seed, number(rows), Path::new(folder));
             written.unwrap_or_else(|error| fail(&error.to_string()));
         }
         _ => fail(USAGE),
