@@ -2,7 +2,7 @@
 
 use std::hint::black_box;
 
-use crate::aligned::{head, print};
+use crate::aligned::{print, row};
 use crate::cases::Bytes;
 use crate::count::{counted, valgrind_is_there};
 use crate::generate::image;
@@ -72,12 +72,12 @@ pub fn print_counts() {
     if !valgrind_is_there() {
         return;
     }
-    let mut table = vec![head("", MIXES.map(Mix::name))];
+    let mut table = vec![row("", MIXES.map(Mix::name))];
     for (name, nets) in CALLS {
         for library in LIBRARIES {
             let of = |mix: Mix| instructions(name, nets, mix, library);
             let title = format!("{name}, {nets} nets, {}", library.name);
-            table.push(head(&title, MIXES.map(of)));
+            table.push(row(&title, MIXES.map(of)));
         }
     }
     print(&table);

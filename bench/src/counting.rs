@@ -2,7 +2,7 @@
 
 use std::hint::black_box;
 
-use crate::aligned::{head, print};
+use crate::aligned::{print, row};
 use crate::cases::{Bytes, CASES};
 use crate::count::{counted, valgrind_is_there, Counts};
 use crate::peers::{named, Peer};
@@ -28,13 +28,13 @@ pub fn print_counts(peers: &[Peer]) {
     if !valgrind_is_there() {
         return;
     }
-    let mut table = vec![head("", peers.iter().map(|peer| peer.name))];
+    let mut table = vec![row("", peers.iter().map(|peer| peer.name))];
     for (number, case) in CASES.iter().enumerate() {
         let of = |peer: &Peer| {
             let arguments = ["count", "run", &number.to_string(), peer.name];
             text(counted(&arguments, FEW, MANY, case.nets))
         };
-        table.push(head(&case.name(), peers.iter().map(of)));
+        table.push(row(&case.name(), peers.iter().map(of)));
     }
     print(&table);
 }

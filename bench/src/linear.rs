@@ -4,12 +4,12 @@
 use std::hint::black_box;
 use std::time::Instant;
 
-use crate::aligned::{head, print};
+use crate::aligned::{print, row};
 use crate::generate::image;
 use crate::image::doubled_nets;
 use crate::libraries::{Library, LIBRARIES};
 use crate::mix::Mix;
-use crate::rounds::{lowest, median};
+use crate::rounds::low_and_median;
 use tracker::image_length;
 
 /// The source nets. The doubled netlist has to stay within 8,192 nets.
@@ -46,16 +46,14 @@ fn size(nets: usize) -> Size {
 
 /// Times checking.
 pub fn print_checking() {
-    println!("\ncheck, equal, ns a net by {ROUNDS} rounds of {CALLS} calls: median, lowest");
+    println!("\ncheck, equal, ns a net: the lowest of {ROUNDS} rounds of {CALLS} calls, in brackets the median");
     let call = |library: &Library, size: &mut Size| (library.check)(black_box(&size.image));
     print_times(CHECKED, call, |size| format!("{} nets", size.nets));
 }
 
 /// Times doubling. The figures are for each source net.
 pub fn print_doubling() {
-    println!(
-        "\ndouble, equal, ns a source net by {ROUNDS} rounds of {CALLS} calls: median, lowest"
-    );
+    println!("\ndouble, equal, the same for each source net");
     let call = |library: &Library, size: &mut Size| {
         (library.double)(black_box(&size.image), black_box(&mut size.buffer))
     };
@@ -64,7 +62,7 @@ pub fn print_doubling() {
     });
 }
 
-/// A row for each size, with the median and the lowest time of each build.
+/// A row for each size, with the lowest and the median time of each build.
 fn print_times(
     sizes: [usize; 4],
     call: impl Fn(&Library, &mut Size) -> u64,
@@ -72,10 +70,10 @@ fn print_times(
 ) {
     let mut sizes = sizes.map(size);
     let times = times(&mut sizes, call);
-    let mut table = vec![head("", LIBRARIES.iter().map(|library| library.name))];
+    let mut table = vec![row("", LIBRARIES.iter().map(|library| library.name))];
     for (size, times) in sizes.iter().zip(times) {
-        let both = |list: &Vec<f64>| format!("{:.2}, {:.2}", median(list), lowest(list));
-        table.push(head(&title(size), times.iter().map(both)));
+        let figures = times.iter().map(|list| low_and_median(list));
+        table.push(row(&title(size), figures));
     }
     print(&table);
 }

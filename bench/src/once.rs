@@ -4,12 +4,12 @@ use std::hint::black_box;
 use std::time::Instant;
 
 use crate::agree::assert_agree;
-use crate::aligned::{head, print};
+use crate::aligned::{print, row};
 use crate::cases::{Bytes, Case};
 use crate::count::{counted, valgrind_is_there};
 use crate::mix::{Mix, MIXES};
 use crate::peers::{named, Peer};
-use crate::rounds::{lowest, ratio};
+use crate::rounds::{low_and_median, ratio};
 
 /// The numbers of nets.
 const NETS: [usize; 3] = [100, 1100, 8192];
@@ -73,19 +73,21 @@ fn cases() -> impl Iterator<Item = Case> {
 
 /// Times the calls of all peers.
 pub fn print_times(peers: &[Peer]) {
-    println!("\nrun with K = 1, ns a net by the lowest of {ROUNDS} rounds");
-    let mut table = vec![head("", peers.iter().map(|peer| peer.name))];
-    let mut ratios = vec![head("", peers.iter().skip(1).map(|peer| peer.name))];
+    let mut figures = vec![row("", peers.iter().map(|peer| peer.name))];
+    let mut ratios = vec![row("", peers.iter().skip(1).map(|peer| peer.name))];
     for case in cases() {
         let times = times(case, peers);
-        let lowest_text = |list: &Vec<f64>| format!("{:.2}", lowest(list));
-        table.push(head(&case.name(), times.iter().map(lowest_text)));
-        let part = |list: &Vec<f64>| ratio(&times[0], list);
-        ratios.push(head(&case.name(), times.iter().skip(1).map(part)));
+        figures.push(row(
+            &case.name(),
+            times.iter().map(|list| low_and_median(list)),
+        ));
+        let rest = times.iter().skip(1);
+        ratios.push(row(&case.name(), rest.map(|list| ratio(&times[0], list))));
     }
-    print(&table);
-    println!("\nrun with K = 1: the library takes so many times as long, by the lowest");
-    println!("times, and in brackets the median of the ratios within the rounds");
+    println!("\nrun with K = 1, ns a net: the lowest of {ROUNDS} rounds, in brackets the median");
+    print(&figures);
+    println!("\nrun with K = 1, how many times as long the library takes: by the lowest times,");
+    println!("in brackets the median of the ratios within the rounds");
     print(&ratios);
 }
 
@@ -122,7 +124,7 @@ pub fn print_counts(peers: &[Peer]) {
     if !valgrind_is_there() {
         return;
     }
-    let mut table = vec![head("", peers.iter().map(|peer| peer.name))];
+    let mut table = vec![row("", peers.iter().map(|peer| peer.name))];
     for case in cases() {
         let of = |peer: &Peer| {
             let nets = case.nets.to_string();
@@ -132,7 +134,7 @@ pub fn print_counts(peers: &[Peer]) {
                 None => "failed".to_string(),
             }
         };
-        table.push(head(&case.name(), peers.iter().map(of)));
+        table.push(row(&case.name(), peers.iter().map(of)));
     }
     print(&table);
 }
