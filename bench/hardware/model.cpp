@@ -12,13 +12,13 @@
 #include <chrono>
 #include <cstdio>
 #include <cstdlib>
-#include <cstring>
 #include <fstream>
 #include <iterator>
 #include <string>
 #include <vector>
 
 #include "Vtop.h"
+#include "ports.h"
 #include "tracker.h"
 #include "verilated.h"
 
@@ -36,25 +36,11 @@ static Bytes read_file(const std::string &name) {
 
 static size_t size_at(const Bytes &image, size_t place) { return image[place] + 256 * image[place + 1]; }
 
-using Words = std::vector<uint32_t>;
-
-// The words of a port. It has one bit at least.
-static size_t words_of(size_t bits) { return (std::max<size_t>(bits, 1) + 31) / 32; }
-
 // One bit of each of a cycle's bytes.
 static Words packed(const uint8_t *bytes, size_t count, int bit) {
     Words words(words_of(count));
     for (size_t i = 0; i < count; i++) words[i / 32] |= uint32_t(bytes[i] >> bit & 1) << i % 32;
     return words;
-}
-
-// A port as verilator declares it is an integer, or a list of words above 64
-// bits. Both are words in memory.
-template <class Port> static void set(Port &port, const uint32_t *words, size_t count) {
-    memcpy(static_cast<void *>(&port), words, std::min(sizeof(port), 4 * count));
-}
-template <class Port> static void get(const Port &port, uint32_t *words, size_t count) {
-    memcpy(words, static_cast<const void *>(&port), std::min(sizeof(port), 4 * count));
 }
 
 struct Netlist {
@@ -102,8 +88,7 @@ static double run_model(const Netlist &n, Vtop &top, Words &outputs) {
         top.eval();
         get(top.out, out, n.output_words);
         get(top.out_t, out + n.output_words, n.output_words);
-        memcpy(static_cast<void *>(&top.q), static_cast<void *>(&top.d), sizeof(top.q));
-        memcpy(static_cast<void *>(&top.q_t), static_cast<void *>(&top.d_t), sizeof(top.q_t));
+        clock_registers(top);
         row += 2 * n.row_words;
         out += 2 * n.output_words;
     }

@@ -1,7 +1,8 @@
 //! Before anything is timed, every peer has to give what the library gives.
 
 use crate::cases::Bytes;
-use crate::generate::{image, Mix};
+use crate::generate::image;
+use crate::mix::MIXES;
 use crate::peers::{Peer, PEERS};
 
 /// How many small netlists are tried.
@@ -10,7 +11,7 @@ const SMALL: usize = 600;
 /// Compares the peers with the library on small netlists, with few cycles.
 pub fn assert_agree_on_small(peers: &[Peer]) {
     for seed in 0..SMALL {
-        let mix = [Mix::Equal, Mix::Gates, Mix::Live][seed % 3];
+        let mix = MIXES[seed % MIXES.len()];
         let (n, k) = (1 + seed % 97, seed % 11);
         let image = image(mix, n, seed as u64, seed % 2 == 0);
         let bytes = Bytes::with_image(image, k, seed as u64);

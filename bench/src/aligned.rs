@@ -20,7 +20,10 @@ pub fn print(rows: &[Vec<String>]) {
     }
 }
 
-/// A row of cells from texts.
-pub fn cells<const LENGTH: usize>(texts: [&str; LENGTH]) -> Vec<String> {
-    texts.iter().map(|text| text.to_string()).collect()
+/// A row of a title and some cells behind it.
+pub fn row(title: &str, texts: impl IntoIterator<Item = impl ToString>) -> Vec<String> {
+    let title = [title.to_string()].into_iter();
+    title
+        .chain(texts.into_iter().map(|text| text.to_string()))
+        .collect()
 }

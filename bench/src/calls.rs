@@ -1,17 +1,15 @@
-//! Instructions of each call for each net, counted by valgrind.
-//!
-//! This program starts itself under valgrind with the mode `call`, which makes
-//! some calls of one kind. The difference of two numbers of calls leaves out the
-//! start of the program and the netlist.
+//! Instructions of each call for each net, for the library and the other build.
 
 use std::hint::black_box;
 
-use crate::aligned::{cells, print};
+use crate::aligned::{print, row};
 use crate::cases::Bytes;
 use crate::count::{counted, valgrind_is_there};
-use crate::generate::{image, Mix};
+use crate::generate::image;
 use crate::image::doubled_nets;
-use tracker::{ffi, image_length};
+use crate::libraries::{named, Library, LIBRARIES};
+use crate::mix::{Mix, MIXES};
+use tracker::image_length;
 
 /// The calls, and the nets of the image that each is made on. A run has one
 /// cycle, and the doubled netlist has to stay within 8,192 nets.
@@ -20,7 +18,7 @@ const CALLS: [(&str, usize); 5] = [
     ("power_up", 8192),
     ("step", 8192),
     ("run", 8192),
-    ("double", 2000),
+    ("double", 1800),
 ];
 
 /// The two numbers of calls.
@@ -31,15 +29,18 @@ const MANY: usize = 21;
 const NETLIST_SEED: u64 = 3;
 const ROW_SEED: u64 = 4;
 
-/// The mode `call`: the name of a call, and how often it is made.
-pub fn some_calls(name: &str, times: usize) {
+/// The mode `count call`: the name of a call, a mix, the name of a build, and how
+/// many calls are made.
+pub fn some_calls(name: &str, mix: Mix, library: &str, times: usize) {
     let nets = CALLS.iter().find(|(call, _)| *call == name);
     let (_, nets) = *nets.expect("the name of a call");
-    let image = image(Mix::Equal, nets, NETLIST_SEED, true);
+    let library = named(library).expect("the name of a build");
+    let image = image(mix, nets, NETLIST_SEED, true);
     let mut bytes = Bytes::with_image(image, 1, ROW_SEED);
     let mut buffer = vec![0; buffer_length(name, &bytes)];
     for _ in 0..times {
-        let answer = one_call(name, &mut bytes, &mut buffer);
+        let answer = one_call(name, library, &mut bytes, &mut buffer);
+        assert!(answer >> 32 == 0, "the library turned a call back");
         black_box((answer, &bytes.start, &buffer));
     }
 }
@@ -54,40 +55,39 @@ fn buffer_length(name: &str, bytes: &Bytes) -> usize {
     }
 }
 
-fn one_call(name: &str, bytes: &mut Bytes, buffer: &mut [u8]) -> u64 {
+fn one_call(name: &str, library: Library, bytes: &mut Bytes, buffer: &mut [u8]) -> u64 {
     let (image, state, row) = (&bytes.image, &mut bytes.start, &bytes.rows);
     match name {
-        "check" => ffi::check(image),
-        "power_up" => ffi::power_up(image, state),
-        "step" => ffi::step(image, state, row, buffer),
-        "run" => ffi::run(image, 1, state, row, buffer),
-        _ => ffi::double(image, buffer),
+        "check" => (library.check)(image),
+        "power_up" => (library.power_up)(image, state),
+        "step" => (library.step)(image, state, row, buffer),
+        "run" => (library.run)(image, 1, state, row, buffer),
+        _ => (library.double)(image, buffer),
     }
 }
 
 /// Counts the instructions of each call.
-pub fn print_instructions() {
-    println!("\ninstructions of a call for each net, kinds equally likely");
+pub fn print_counts() {
+    println!("\ninstructions of a call for each net, for double each source net");
     if !valgrind_is_there() {
-        println!("  valgrind is not there, so they are not counted.");
         return;
     }
-    let mut table = vec![cells(["", "nets", "instructions"])];
+    let mut table = vec![row("", MIXES.map(Mix::name))];
     for (name, nets) in CALLS {
-        table.push(vec![
-            name.to_string(),
-            nets.to_string(),
-            match instructions(name, nets) {
-                Some(count) => format!("{count:.2}"),
-                None => "failed".to_string(),
-            },
-        ]);
+        for library in LIBRARIES {
+            let of = |mix: Mix| instructions(name, nets, mix, library);
+            let title = format!("{name}, {nets} nets, {}", library.name);
+            table.push(row(&title, MIXES.map(of)));
+        }
     }
     print(&table);
 }
 
-/// The instructions of one call for each net.
-fn instructions(name: &str, nets: usize) -> Option<f64> {
-    let of = |times: usize| counted(&["call", name, &times.to_string()]);
-    Some((of(MANY)? - of(FEW)?) / (nets * (MANY - FEW)) as f64)
+/// The instructions of one call for each net, in print.
+fn instructions(name: &str, nets: usize, mix: Mix, library: &Library) -> String {
+    let arguments = ["count", "call", name, mix.name(), library.name];
+    match counted(&arguments, FEW, MANY, nets) {
+        Some(counts) => format!("{:.1}", counts.instructions),
+        None => "failed".to_string(),
+    }
 }

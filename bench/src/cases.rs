@@ -1,8 +1,9 @@
 //! The cases that are measured.
 
 use crate::call::Call;
-use crate::generate::{image, rows, Mix};
+use crate::generate::{image, rows};
 use crate::image::{sizes_of, Sizes};
+use crate::mix::Mix;
 use crate::peers::Peer;
 use tracker::ffi;
 
@@ -22,32 +23,30 @@ const fn case(mix: Mix, nets: usize, protect: bool) -> Case {
     Case { mix, nets, protect }
 }
 
-/// The case of the headline.
-pub const HEADLINE: Case = case(Mix::Equal, 8192, true);
-
-/// All cases, the headline's first.
-pub const CASES: [Case; 6] = [
-    HEADLINE,
-    case(Mix::Equal, 1100, true),
-    case(Mix::Equal, 8192, false),
+/// All cases.
+pub const CASES: [Case; 12] = [
+    case(Mix::Equal, 8192, true),
     case(Mix::Gates, 8192, true),
+    case(Mix::Live, 8192, true),
+    case(Mix::Real, 8192, true),
+    case(Mix::Equal, 1100, true),
     case(Mix::Gates, 1100, true),
+    case(Mix::Live, 1100, true),
+    case(Mix::Real, 1100, true),
+    case(Mix::Equal, 8192, false),
     case(Mix::Gates, 8192, false),
+    case(Mix::Live, 8192, false),
+    case(Mix::Real, 8192, false),
 ];
 
 impl Case {
     /// What the case is called in print.
     pub fn name(self) -> String {
-        let mix = match self.mix {
-            Mix::Equal => "kinds equally likely",
-            Mix::Gates => "mostly gates",
-            Mix::Live => "mostly gates, all read",
+        let clear = match self.protect {
+            true => "",
+            false => ", no OUT protected",
         };
-        let flow = match self.protect {
-            true => "flow early",
-            false => "no OUT protected, no flow",
-        };
-        format!("{} nets, {}, {}", self.nets, mix, flow)
+        format!("{} {}{clear}", self.mix.name(), self.nets)
     }
 }
 
@@ -84,13 +83,26 @@ impl Bytes {
         vec![0; k * self.sizes.outputs]
     }
 
-    /// A run of k cycles. The state and the outputs are the caller's.
+    /// A run of the first k rows. The state and the outputs are the caller's.
     pub fn run(&self, peer: Peer, k: usize, state: &mut [u8], outputs: &mut [u8]) -> u64 {
+        self.run_from(peer, 0, k, state, outputs)
+    }
+
+    /// A run of k rows from a row on.
+    pub fn run_from(
+        &self,
+        peer: Peer,
+        row: usize,
+        k: usize,
+        state: &mut [u8],
+        outputs: &mut [u8],
+    ) -> u64 {
+        let inputs = self.sizes.inputs;
         (peer.run)(Call {
             image: &self.image,
             k,
             state,
-            rows: &self.rows[..k * self.sizes.inputs],
+            rows: &self.rows[row * inputs..][..k * inputs],
             outputs: &mut outputs[..k * self.sizes.outputs],
         })
     }

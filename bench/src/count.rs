@@ -1,53 +1,89 @@
-//! Instructions for each net and cycle of a run, counted by valgrind where it is there.
+//! Instructions and mispredicted branches, counted by valgrind's cachegrind where
+//! it is there.
 //!
-//! This program starts itself under valgrind with the mode `count`, which makes
-//! one run of a case. Two runs differ only in their cycles, so the difference of
-//! their counts leaves out the start of the program, the netlist and the check
-//! of the image.
+//! This program starts itself under valgrind with a mode that makes a number of
+//! cycles or calls. The difference of two such numbers leaves out the start of
+//! the program and the netlist. Mispredictions are those of cachegrind's own
+//! model of a predictor, which is simpler than that of a processor.
 
 use std::env;
-use std::hint::black_box;
+use std::ops::{Div, Sub};
 use std::process::Command;
 
-use crate::cases::{Bytes, Case, CASES};
-use crate::peers::{named, Peer};
+/// Valgrind counts each byte that a `rep stosb` sets as an instruction. With these
+/// settings the C library fills and copies large buffers by a loop instead.
+const LOOPS: &str = "glibc.cpu.x86_rep_stosb_threshold=1000000:\
+    glibc.cpu.x86_rep_movsb_threshold=1000000";
 
-/// The two numbers of cycles.
-const FEW: usize = 64;
-const MANY: usize = 192;
-
-/// The mode `count`: the number of a case, the name of a peer, and the cycles.
-pub fn one_run(case: usize, peer: &str, k: usize) {
-    let peer = named(peer).expect("the name of a peer");
-    let bytes = Bytes::of(CASES[case], MANY);
-    let mut state = bytes.start.clone();
-    let mut outputs = bytes.outputs(MANY);
-    let answer = bytes.run(peer, k, &mut state, &mut outputs);
-    black_box((answer, &state, &outputs));
+/// What was counted.
+#[derive(Clone, Copy)]
+pub struct Counts {
+    pub instructions: f64,
+    pub mispredicted: f64,
 }
 
-/// Whether valgrind can be started.
+impl Sub for Counts {
+    type Output = Counts;
+
+    fn sub(self, less: Counts) -> Counts {
+        Counts {
+            instructions: self.instructions - less.instructions,
+            mispredicted: self.mispredicted - less.mispredicted,
+        }
+    }
+}
+
+impl Div<f64> for Counts {
+    type Output = Counts;
+
+    fn div(self, by: f64) -> Counts {
+        Counts {
+            instructions: self.instructions / by,
+            mispredicted: self.mispredicted / by,
+        }
+    }
+}
+
+/// Whether valgrind can be started. Where not, that is printed.
 pub fn valgrind_is_there() -> bool {
-    Command::new("valgrind").arg("--version").output().is_ok()
+    let there = Command::new("valgrind").arg("--version").output().is_ok();
+    if !there {
+        println!("  valgrind is not there, so nothing is counted.");
+    }
+    there
 }
 
-/// The instructions of a peer for each net and cycle of a case.
-pub fn instructions(case: usize, peer: Peer) -> Option<f64> {
-    let of = |k: usize| counted(&["count", &case.to_string(), peer.name, &k.to_string()]);
-    let Case { nets, .. } = CASES[case];
-    Some((of(MANY)? - of(FEW)?) / (nets * (MANY - FEW)) as f64)
+/// The counts of this program with some arguments, and a number behind them, for
+/// each unit by which MANY is above FEW; a unit is `size` nets.
+pub fn counted(arguments: &[&str], few: usize, many: usize, size: usize) -> Option<Counts> {
+    let more = total(arguments, many)? - total(arguments, few)?;
+    Some(more / (size * (many - few)) as f64)
 }
 
-/// The instructions of this program with some arguments.
-pub fn counted(arguments: &[&str]) -> Option<f64> {
+/// All that this program counts with some arguments and a number behind them.
+fn total(arguments: &[&str], number: usize) -> Option<Counts> {
     let output = Command::new("valgrind")
-        .arg("--tool=callgrind")
-        .arg("--callgrind-out-file=/dev/null")
+        .env("GLIBC_TUNABLES", LOOPS)
+        .args(["--tool=cachegrind", "--branch-sim=yes", "--cache-sim=no"])
+        .arg("--cachegrind-out-file=/dev/null")
         .arg(env::current_exe().ok()?)
         .args(arguments)
+        .arg(number.to_string())
         .output()
         .ok()?;
     let text = String::from_utf8_lossy(&output.stderr).into_owned();
-    let line = text.lines().find(|line| line.contains("Collected"))?;
-    line.rsplit(' ').next()?.parse().ok()
+    Some(Counts {
+        instructions: figure(&text, "refs:")?,
+        mispredicted: figure(&text, "Mispredicts:")?,
+    })
+}
+
+/// The figure behind a word, whose digits have commas between them.
+fn figure(text: &str, word: &str) -> Option<f64> {
+    let (_, rest) = text.split_once(word)?;
+    rest.split_whitespace()
+        .next()?
+        .replace(',', "")
+        .parse()
+        .ok()
 }

@@ -1,25 +1,15 @@
 //! Random netlists and rows.
 
 use crate::image::{image_of, Net, CONST, INPUT, MUX, NOT, OUT, REG};
+use crate::mix::Mix;
 use crate::random::Random;
-
-/// How the kinds of the nets are mixed. They stand in random order.
-#[derive(Clone, Copy, PartialEq)]
-pub enum Mix {
-    /// All nine kinds are equally likely.
-    Equal,
-    /// 85 nets in 100 are gates and OUTs.
-    Gates,
-    /// As Gates, but without CONSTs beyond the first nets, and almost every net
-    /// is read: pin a of a gate or OUT is the oldest net that nothing reads yet.
-    Live,
-}
+use crate::real::real_net;
 
 /// The nets at the start that are no gates, so that pins have something to name.
 const SOURCES: usize = 8;
 
 /// The OUTs in 100 that are protected.
-const PROTECTED: usize = 25;
+pub const PROTECTED: usize = 25;
 
 /// The row bytes in 100 that are marked.
 const MARKED: usize = 25;
@@ -31,7 +21,10 @@ pub fn image(mix: Mix, n: usize, seed: u64, protect: bool) -> Vec<u8> {
     let mut nets = Vec::with_capacity(n);
     let mut unread = Unread::new(n);
     for i in 0..n {
-        let mut net = random_net(&mut random, mix, n, i);
+        let mut net = match mix {
+            Mix::Real => real_net(&mut random, n, i),
+            _ => mixed_net(&mut random, mix, n, i),
+        };
         if mix == Mix::Live {
             unread.take_pin(&mut net, i);
         }
@@ -43,8 +36,8 @@ pub fn image(mix: Mix, n: usize, seed: u64, protect: bool) -> Vec<u8> {
     image_of(&nets)
 }
 
-/// Net i of n.
-fn random_net(random: &mut Random, mix: Mix, n: usize, i: usize) -> Net {
+/// Net i of n, in a mix in random order.
+fn mixed_net(random: &mut Random, mix: Mix, n: usize, i: usize) -> Net {
     let kind = random_kind(random, mix, i);
     let mut pin = |limit: usize| random.below(limit) as u16;
     let (a, b, c) = match kind {
@@ -70,8 +63,8 @@ fn random_kind(random: &mut Random, mix: Mix, i: usize) -> u8 {
     match mix {
         Mix::Equal => random.below(9) as u8,
         _ if random.chance(85) => NOT + random.below(6) as u8,
-        Mix::Gates => random.below(3) as u8,
         Mix::Live => INPUT + random.below(2) as u8,
+        _ => random.below(3) as u8,
     }
 }
 

@@ -9,8 +9,9 @@ use std::io;
 use std::path::Path;
 
 use crate::cases::Bytes;
-use crate::generate::{image, Mix};
+use crate::generate::image;
 use crate::image::{nets_of, CONST, INPUT, MUX, NOT, OUT, REG};
+use crate::mix::Mix;
 use crate::peers::PEERS;
 use crate::verilog::{net, top, MuxAs};
 
@@ -38,7 +39,7 @@ pub fn write_files(mix: Mix, nets: usize, seed: u64, k: usize, folder: &Path) ->
 }
 
 /// The widths of the ports and the values of the registers at power-up.
-fn sizes(bytes: &Bytes, k: usize) -> String {
+pub fn sizes(bytes: &Bytes, k: usize) -> String {
     let z = bytes.sizes;
     let bits: String = bytes
         .start
@@ -79,7 +80,7 @@ fn vector(bytes: &[u8]) -> String {
 
 /// How many nets an OUT or a REG's pin depends on within a cycle. Compilers leave
 /// out the others.
-fn needed(image: &[u8]) -> usize {
+pub fn needed(image: &[u8]) -> usize {
     let nets = nets_of(image);
     let mut needed = vec![false; nets.len()];
     for net in nets.iter().filter(|net| net.kind == REG) {

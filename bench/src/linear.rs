@@ -1,13 +1,16 @@
-//! Checking and doubling at four sizes, to see whether they are linear.
+//! Checking and doubling at four sizes, to see whether they are linear, for the
+//! library and the other build.
 
 use std::hint::black_box;
 use std::time::Instant;
 
-use crate::aligned::{cells, print};
-use crate::generate::{image, Mix};
+use crate::aligned::{print, row};
+use crate::generate::image;
 use crate::image::doubled_nets;
-use crate::rounds::{lowest, median};
-use tracker::{ffi, image_length};
+use crate::libraries::{Library, LIBRARIES};
+use crate::mix::Mix;
+use crate::rounds::low_and_median;
+use tracker::image_length;
 
 /// The source nets. The doubled netlist has to stay within 8,192 nets.
 const CHECKED: [usize; 4] = [1024, 2048, 4096, 8192];
@@ -43,51 +46,58 @@ fn size(nets: usize) -> Size {
 
 /// Times checking.
 pub fn print_checking() {
-    println!("\ncheck, kinds equally likely, {ROUNDS} rounds of {CALLS} calls");
-    let mut sizes = CHECKED.map(size);
-    let times = times(&mut sizes, |size| ffi::check(black_box(&size.image)));
-    let names = sizes.map(|size| format!("{} nets", size.nets));
-    print_table(&names, &times);
+    println!("\ncheck, equal, ns a net: the lowest of {ROUNDS} rounds of {CALLS} calls, in brackets the median");
+    let call = |library: &Library, size: &mut Size| (library.check)(black_box(&size.image));
+    print_times(CHECKED, call, |size| format!("{} nets", size.nets));
 }
 
 /// Times doubling. The figures are for each source net.
 pub fn print_doubling() {
-    println!(
-        "\ndouble, kinds equally likely, {ROUNDS} rounds of {CALLS} calls, for each source net"
-    );
-    let mut sizes = DOUBLED.map(size);
-    let times = times(&mut sizes, |size| {
-        ffi::double(black_box(&size.image), black_box(&mut size.buffer))
+    println!("\ndouble, equal, the same for each source net");
+    let call = |library: &Library, size: &mut Size| {
+        (library.double)(black_box(&size.image), black_box(&mut size.buffer))
+    };
+    print_times(DOUBLED, call, |size| {
+        format!("{} nets, {} doubled", size.nets, size.doubled)
     });
-    for size in &sizes {
-        assert_eq!(ffi::check(&size.buffer), 0);
-    }
-    let names = sizes.map(|size| format!("{} nets, {} doubled", size.nets, size.doubled));
-    print_table(&names, &times);
 }
 
-/// The nanoseconds of a call for each net, for each size and round.
-fn times(sizes: &mut [Size; 4], call: impl Fn(&mut Size) -> u64) -> [Vec<f64>; 4] {
-    let mut times: [Vec<f64>; 4] = Default::default();
+/// A row for each size, with the lowest and the median time of each build.
+fn print_times(
+    sizes: [usize; 4],
+    call: impl Fn(&Library, &mut Size) -> u64,
+    title: impl Fn(&Size) -> String,
+) {
+    let mut sizes = sizes.map(size);
+    let times = times(&mut sizes, call);
+    let mut table = vec![row("", LIBRARIES.iter().map(|library| library.name))];
+    for (size, times) in sizes.iter().zip(times) {
+        let figures = times.iter().map(|list| low_and_median(list));
+        table.push(row(&title(size), figures));
+    }
+    print(&table);
+}
+
+/// The nanoseconds of a call for each net, for each size, build and round.
+fn times(sizes: &mut [Size; 4], call: impl Fn(&Library, &mut Size) -> u64) -> [Vec<Vec<f64>>; 4] {
+    let mut times: [_; 4] = Default::default();
+    times.fill(vec![Vec::new(); LIBRARIES.len()]);
     for _ in 0..ROUNDS {
         for (size, times) in sizes.iter_mut().zip(&mut times) {
-            let start = Instant::now();
-            for _ in 0..CALLS {
-                assert_eq!(black_box(call(size)), 0);
+            for (library, times) in LIBRARIES.iter().zip(times) {
+                times.push(nanoseconds(size, |size| call(library, size)));
             }
-            let time = start.elapsed().as_secs_f64();
-            times.push(time * 1e9 / (size.nets * CALLS) as f64);
         }
     }
     times
 }
 
-/// A row for each size: the median and the lowest.
-fn print_table(names: &[String; 4], times: &[Vec<f64>; 4]) {
-    let mut table = vec![cells(["", "median ns/net", "lowest ns/net"])];
-    for (name, times) in names.iter().zip(times) {
-        let median = format!("{:.2}", median(times));
-        table.push(vec![name.clone(), median, format!("{:.2}", lowest(times))]);
+/// The nanoseconds of one call for each net.
+fn nanoseconds(size: &mut Size, call: impl Fn(&mut Size) -> u64) -> f64 {
+    let start = Instant::now();
+    for _ in 0..CALLS {
+        assert_eq!(black_box(call(size)), 0);
     }
-    print(&table);
+    let time = start.elapsed().as_secs_f64();
+    time * 1e9 / (size.nets * CALLS) as f64
 }

@@ -1,9 +1,11 @@
 //! Measurements of the tracker's static library.
 //!
-//! Without arguments: all tables. `forms`: a table of the forms that the best
-//! peer was chosen from. `count CASE PEER CYCLES`: one run, for valgrind. `calls`:
-//! the instructions of each call. `call NAME TIMES`: some calls, for valgrind.
-//! `netlist MIX NETS SEED CYCLES FOLDER`: files for the hardware tools.
+//! Without arguments: all tables of the library and its peers. Each can be printed
+//! alone: `run` (times), `counts` (instructions and mispredicted branches of a
+//! run), `once` (runs of one cycle), `calls` (instructions of each call), `linear`
+//! (check and double). `forms`: times and counts of the forms of src/forms.
+//! `count ..`: work for valgrind to count. `netlist MIX NETS SEED CYCLES FOLDER`
+//! and `listing MIX NETS SEED ROWS FOLDER`: files for the hardware tools.
 
 mod agree;
 mod aligned;
@@ -12,15 +14,25 @@ mod calls;
 mod cases;
 mod check;
 mod count;
+mod counting;
 mod decoded;
 mod forms;
 mod generate;
 mod hardware;
 mod image;
+#[cfg(c_peer)]
+mod in_c;
+mod libraries;
 mod linear;
+mod listings;
+mod mix;
+mod once;
+#[cfg(other)]
+mod other;
 mod peers;
 mod plain;
 mod random;
+mod real;
 mod rounds;
 mod running;
 mod verilog;
@@ -30,69 +42,85 @@ use std::path::Path;
 use std::process;
 
 use agree::assert_agree_on_small;
-use cases::CASES;
 use forms::FORMS;
-use generate::Mix;
-use hardware::write_files;
+use mix::Mix;
 use peers::PEERS;
 
-const USAGE: &str =
-    "usage: bench [forms | calls | count CASE PEER CYCLES | call NAME TIMES | netlist MIX NETS SEED CYCLES FOLDER]";
+const USAGE: &str = "usage: bench [run | counts | once | calls | linear | forms | \
+    netlist MIX NETS SEED CYCLES FOLDER | listing MIX NETS SEED ROWS FOLDER]";
 
-/// How often each peer is timed on each case.
-const ROUNDS: usize = 11;
+/// The tables of the library and its peers.
+const TABLES: [&str; 5] = ["run", "counts", "once", "calls", "linear"];
 
 fn main() {
     let arguments: Vec<String> = env::args().skip(1).collect();
     let words: Vec<&str> = arguments.iter().map(String::as_str).collect();
     match words[..] {
-        [] => all(),
-        ["forms"] => forms(),
-        ["calls"] => calls::print_instructions(),
-        ["call", name, times] => calls::some_calls(name, number(times)),
-        ["count", case, peer, k] => count::one_run(number(case), peer, number(k)),
-        ["netlist", mix, nets, seed, k, folder] => {
-            let (nets, seed, k) = (number(nets), number(seed), number(k));
-            let written = write_files(named_mix(mix), nets, seed as u64, k, Path::new(folder));
+        [] => print_tables(&TABLES),
+        [table] if TABLES.contains(&table) => print_tables(&[table]),
+        ["forms"] => print_forms(),
+        ["count", ref what @ ..] => count(what),
+        [files @ ("netlist" | "listing"), mix, nets, seed, rows, folder] => {
+            let write = match files {
+                "netlist" => hardware::write_files,
+                _ => listings::write_files,
+            };
+            let (mix, nets, seed) = (named_mix(mix), number(nets), number(seed) as u64);
+            let written = write(mix, nets, seed, number(rows), Path::new(folder));
             written.unwrap_or_else(|error| fail(&error.to_string()));
         }
         _ => fail(USAGE),
     }
 }
 
-/// All tables. Times are taken only where all peers give what the library gives.
-fn all() {
-    assert_agree_on_small(&PEERS);
-    println!("{ROUNDS} alternating rounds; \"best\" is the best form that reads the image each");
-    println!("cycle; \"decoded\" decodes it first and stands outside that comparison.");
-    for case in CASES {
-        running::print_times(case, &PEERS, ROUNDS);
+/// Prints some tables. Nothing is timed before all peers gave what the library gives.
+fn print_tables(tables: &[&str]) {
+    let all = peers::all();
+    assert_agree_on_small(&all);
+    peers::print_legend();
+    for table in tables {
+        match *table {
+            "run" => running::print_times(&all),
+            "counts" => counting::print_counts(&all),
+            "once" => {
+                once::print_times(PEERS);
+                once::print_counts(PEERS);
+            }
+            "calls" => calls::print_counts(),
+            _ => {
+                linear::print_checking();
+                linear::print_doubling();
+            }
+        }
     }
-    running::print_instructions(&PEERS);
-    calls::print_instructions();
-    linear::print_checking();
-    linear::print_doubling();
 }
 
-/// The library and the forms that the best peer was chosen from.
-fn forms() {
+/// The library and the forms of an interpreter that reads the image in place.
+fn print_forms() {
     let mut peers = vec![PEERS[0]];
     peers.extend(FORMS);
     assert_agree_on_small(&peers);
-    for case in CASES {
-        running::print_times(case, &peers, ROUNDS);
+    running::print_times(&peers);
+    counting::print_counts(&peers);
+}
+
+/// The mode `count`: work that valgrind counts. The last word says how much.
+fn count(words: &[&str]) {
+    match *words {
+        ["run", case, peer, k] => counting::one_run(number(case), peer, number(k)),
+        ["once", mix, nets, peer, times] => {
+            once::some_calls(named_mix(mix), number(nets), peer, number(times));
+        }
+        ["call", name, mix, library, times] => {
+            calls::some_calls(name, named_mix(mix), library, number(times));
+        }
+        _ => fail(USAGE),
     }
-    running::print_instructions(&peers);
 }
 
 /// A mix among the arguments.
 fn named_mix(word: &str) -> Mix {
-    match word {
-        "equal" => Mix::Equal,
-        "gates" => Mix::Gates,
-        "live" => Mix::Live,
-        _ => fail("the mix is equal, gates or live"),
-    }
+    mix::named(word).unwrap_or_else(|| fail("the mix is equal, gates, live or real"))
 }
 
 /// A number among the arguments.

@@ -7,8 +7,10 @@ use std::time::Instant;
 use crate::cases::Bytes;
 use crate::peers::Peer;
 
-/// The seconds of each peer in each round: `times[peer][round]`.
+/// The nanoseconds of each peer for each net and cycle, in each round:
+/// `times[peer][round]`.
 pub fn rounds(bytes: &Bytes, k: usize, peers: &[Peer], rounds: usize) -> Vec<Vec<f64>> {
+    let work = (bytes.sizes.nets * k) as f64;
     let mut times = vec![Vec::new(); peers.len()];
     let mut outputs = bytes.outputs(k);
     for _ in 0..rounds {
@@ -18,14 +20,14 @@ pub fn rounds(bytes: &Bytes, k: usize, peers: &[Peer], rounds: usize) -> Vec<Vec
             let answer = bytes.run(*peer, k, &mut state, &mut outputs);
             let time = start.elapsed().as_secs_f64();
             black_box((answer, &state, &outputs));
-            times.push(time);
+            times.push(time * 1e9 / work);
         }
     }
     times
 }
 
 /// The median of a list that is not empty.
-pub fn median(list: &[f64]) -> f64 {
+fn median(list: &[f64]) -> f64 {
     let mut sorted = list.to_vec();
     sorted.sort_by(f64::total_cmp);
     let middle = sorted.len() / 2;
@@ -36,12 +38,24 @@ pub fn median(list: &[f64]) -> f64 {
 }
 
 /// The lowest of a list.
-pub fn lowest(list: &[f64]) -> f64 {
+fn lowest(list: &[f64]) -> f64 {
     list.iter().copied().fold(f64::INFINITY, f64::min)
 }
 
 /// The median of the ratios above / below, round by round.
-pub fn median_ratio(above: &[f64], below: &[f64]) -> f64 {
+fn median_ratio(above: &[f64], below: &[f64]) -> f64 {
     let ratios: Vec<f64> = above.iter().zip(below).map(|(a, b)| a / b).collect();
     median(&ratios)
+}
+
+/// The lowest of a list, and in brackets the median.
+pub fn low_and_median(list: &[f64]) -> String {
+    format!("{:.2} ({:.2})", lowest(list), median(list))
+}
+
+/// The ratio of the lowest times above / below, and in brackets the median of the
+/// ratios within the rounds.
+pub fn ratio(above: &[f64], below: &[f64]) -> String {
+    let low = lowest(above) / lowest(below);
+    format!("{low:.2} ({:.2})", median_ratio(above, below))
 }

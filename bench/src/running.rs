@@ -1,63 +1,35 @@
-//! The tables about `run`: times, and instructions.
+//! The times of `run` with many cycles.
 
 use crate::agree::assert_agree;
-use crate::aligned::{cells, print};
-use crate::cases::{Bytes, Case, CASES};
-use crate::count::{instructions, valgrind_is_there};
+use crate::aligned::{print, row};
+use crate::cases::{Bytes, CASES};
 use crate::peers::Peer;
-use crate::rounds::{lowest, median, median_ratio, rounds};
+use crate::rounds::{low_and_median, ratio, rounds};
 
-/// The cycles of each timed run.
-pub const CYCLES: usize = 4096;
+/// About how many nets a timed run works out, over all its cycles. A run takes a
+/// few milliseconds, so that many of them are not interrupted by other work.
+const TIMED_NETS: usize = 1 << 21;
 
-/// Times the peers on a case. The first of them is the library.
-pub fn print_times(case: Case, peers: &[Peer], number: usize) {
-    let bytes = Bytes::of(case, CYCLES);
-    assert_agree(&bytes, CYCLES, peers);
-    let times = rounds(&bytes, CYCLES, peers, number);
-    println!("\nrun, {}, {CYCLES} cycles", case.name());
-    let mut table = vec![cells([
-        "",
-        "median ms",
-        "lowest ms",
-        "million net-cycles/s (median)",
-        "(lowest)",
-        "library is x times as fast as it",
-    ])];
-    let work = (case.nets * CYCLES) as f64;
-    for (peer, list) in peers.iter().zip(&times) {
-        let (middle, low) = (median(list), lowest(list));
-        table.push(vec![
-            peer.name.to_string(),
-            format!("{:.1}", middle * 1e3),
-            format!("{:.1}", low * 1e3),
-            format!("{:.0}", work / middle / 1e6),
-            format!("{:.0}", work / low / 1e6),
-            format!("{:.2}", median_ratio(list, &times[0])),
-        ]);
-    }
-    print(&table);
-}
+/// How often each peer is timed on each case.
+const ROUNDS: usize = 101;
 
-/// Counts the instructions of the peers on all cases.
-pub fn print_instructions(peers: &[Peer]) {
-    println!("\nrun, instructions for each net and cycle");
-    if !valgrind_is_there() {
-        println!("  valgrind is not there, so they are not counted.");
-        return;
+/// Times the peers on all cases. The first of them is the library.
+pub fn print_times(peers: &[Peer]) {
+    let mut figures = vec![row("", peers.iter().map(|peer| peer.name))];
+    let mut ratios = vec![row("", peers.iter().skip(1).map(|peer| peer.name))];
+    for case in CASES {
+        let k = TIMED_NETS / case.nets;
+        let bytes = Bytes::of(case, k);
+        assert_agree(&bytes, k, peers);
+        let times = rounds(&bytes, k, peers, ROUNDS);
+        let name = format!("{}, {k} cycles", case.name());
+        figures.push(row(&name, times.iter().map(|list| low_and_median(list))));
+        let rest = times.iter().skip(1);
+        ratios.push(row(&name, rest.map(|list| ratio(list, &times[0]))));
     }
-    let mut head = vec![String::new()];
-    head.extend(peers.iter().map(|peer| peer.name.to_string()));
-    let mut table = vec![head];
-    for (number, case) in CASES.iter().enumerate() {
-        let mut row = vec![case.name()];
-        for peer in peers {
-            row.push(match instructions(number, *peer) {
-                Some(count) => format!("{count:.1}"),
-                None => "failed".to_string(),
-            });
-        }
-        table.push(row);
-    }
-    print(&table);
+    println!("\nrun, ns a net and cycle: the lowest of {ROUNDS} rounds, in brackets the median");
+    print(&figures);
+    println!("\nrun, how many times as fast the library is: by the lowest times, in brackets");
+    println!("the median of the ratios within the rounds");
+    print(&ratios);
 }

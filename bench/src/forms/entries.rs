@@ -4,8 +4,8 @@
 //! policies while no flow is found. In cycle 0 the REGs show the state; after
 //! it they show bytes of the cycle before, so there is no pass for the clock.
 
+use super::branches;
 use super::passes::{clock, verdict, write_outputs};
-use super::tabled;
 use super::walk::{walk, Buffers};
 use crate::call::{Call, First};
 use crate::image::Sizes;
@@ -27,10 +27,10 @@ pub fn cycles(mut call: Call, z: Sizes) -> First {
             };
             let nets = buffers.nets[now].as_ptr();
             if seen {
-                first = verdict(image, n, nets).map(|net| (cycle, net));
+                first = verdict(image, n, 0, nets).map(|net| (cycle, net));
             }
             if cycle + 1 == call.k {
-                clock(image, n, nets, call.state.as_mut_ptr());
+                clock(image, n, 0, nets, call.state.as_mut_ptr());
             }
         }
         let outputs = &buffers.outputs[..z.outputs];
@@ -42,7 +42,7 @@ pub fn cycles(mut call: Call, z: Sizes) -> First {
 /// Cycle 0. Whether there is a flow is left to the verdict.
 unsafe fn start(image: *const u8, n: usize, state: &[u8], buffers: &mut Buffers) -> bool {
     let nets = &mut buffers.nets[0];
-    tabled::work_out(image, n, &buffers.row, state, nets);
-    write_outputs(image, n, nets.as_ptr(), buffers.outputs.as_mut_ptr());
+    branches::work_out(image, n, &buffers.row, state, nets);
+    write_outputs(image, n, 0, nets.as_ptr(), buffers.outputs.as_mut_ptr());
     true
 }

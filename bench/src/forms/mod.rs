@@ -4,10 +4,12 @@
 //! - match: unchecked reads, a match on the kind, formulas on bits, passes for
 //!   the verdict, the outputs and the clock. It jumps by the kind, which the
 //!   processor cannot foresee where kinds are mixed.
-//! - table: one table of codes for all gates; branches for the other kinds only.
+//! - branches: one table of codes for all gates; branches for the other kinds only.
 //! - safe: no branch on the kind, in safe code that needs no bounds tests.
 //! - entries: the same idea with unchecked reads, four nets to a turn, and the
-//!   verdict out of the same walk. This is the best.
+//!   verdict out of the same walk. This is the best of those without lists.
+//! - lists: the library's shape. The nets that are no gates are listed once a run,
+//!   and a cycle has one branch a net, whether it is a gate.
 //!
 //! Tried as well, and not faster than "entries": conditional moves in place of
 //! the entries' masks, with one net to a turn and a pass for the verdict; the
@@ -16,40 +18,44 @@
 //! (eight take a little fewer instructions and no less time); and "safe" with
 //! operands that are read byte by byte.
 
+mod branches;
 mod entries;
+mod lists;
 mod matched;
 mod passes;
 mod read;
 mod safe;
+mod settle;
 pub mod table;
-mod tabled;
 mod walk;
 
-use crate::call::{checked, Call, First};
-use crate::image::Sizes;
+use crate::call::checked;
 use crate::peers::Peer;
 
-/// All forms.
-pub const FORMS: [Peer; 4] = [
-    Peer {
-        name: "match",
-        run: |call| checked(call, matched::cycles),
-    },
-    Peer {
-        name: "table",
-        run: |call| checked(call, tabled::cycles),
-    },
-    Peer {
-        name: "safe",
-        run: |call| checked(call, safe::cycles),
-    },
-    Peer {
-        name: "entries",
-        run: |call| checked(call, entries::cycles),
-    },
-];
+pub const MATCH: Peer = Peer {
+    name: "match",
+    run: |call| checked(call, matched::cycles),
+};
 
-/// The cycles of the best form.
-pub fn best(call: Call, sizes: Sizes) -> First {
-    entries::cycles(call, sizes)
-}
+pub const BRANCHES: Peer = Peer {
+    name: "branches",
+    run: |call| checked(call, branches::cycles),
+};
+
+pub const SAFE: Peer = Peer {
+    name: "safe",
+    run: |call| checked(call, safe::cycles),
+};
+
+pub const ENTRIES: Peer = Peer {
+    name: "entries",
+    run: |call| checked(call, entries::cycles),
+};
+
+pub const LISTS: Peer = Peer {
+    name: "lists",
+    run: |call| checked(call, lists::cycles),
+};
+
+/// All forms.
+pub const FORMS: [Peer; 5] = [MATCH, BRANCHES, SAFE, ENTRIES, LISTS];

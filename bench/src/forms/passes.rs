@@ -1,18 +1,30 @@
-//! Unchecked passes over the nets of one kind, for the forms that need them.
+//! Unchecked passes over the nets of one kind, for the forms that need them. Each
+//! starts at a net below which there is none of the kind.
 
 use super::read::{kind, operand, operands};
 use crate::image::{OUT, REG};
 
+/// The lowest net of a kind, or n where there is none.
+pub unsafe fn lowest(image: *const u8, n: usize, wanted: u8) -> usize {
+    (0..n).find(|i| kind(image, *i) == wanted).unwrap_or(n)
+}
+
 /// The lowest protected OUT with mark 1.
-pub unsafe fn verdict(image: *const u8, n: usize, nets: *const u8) -> Option<usize> {
+pub unsafe fn verdict(image: *const u8, n: usize, from: usize, nets: *const u8) -> Option<usize> {
     let o = operands(image, n);
-    (0..n).find(|i| kind(image, *i) == OUT && operand(o, *i, 1) == 1 && *nets.add(*i) >= 2)
+    (from..n).find(|i| kind(image, *i) == OUT && operand(o, *i, 1) == 1 && *nets.add(*i) >= 2)
 }
 
 /// The bytes of the OUTs, in net order.
-pub unsafe fn write_outputs(image: *const u8, n: usize, nets: *const u8, out: *mut u8) {
+pub unsafe fn write_outputs(
+    image: *const u8,
+    n: usize,
+    from: usize,
+    nets: *const u8,
+    out: *mut u8,
+) {
     let mut o = 0;
-    for i in 0..n {
+    for i in from..n {
         if kind(image, i) == OUT {
             *out.add(o) = *nets.add(i);
             o += 1;
@@ -21,10 +33,10 @@ pub unsafe fn write_outputs(image: *const u8, n: usize, nets: *const u8, out: *m
 }
 
 /// Every register takes the byte of its net.
-pub unsafe fn clock(image: *const u8, n: usize, nets: *const u8, state: *mut u8) {
+pub unsafe fn clock(image: *const u8, n: usize, from: usize, nets: *const u8, state: *mut u8) {
     let pins = operands(image, n);
     let mut j = 0;
-    for i in 0..n {
+    for i in from..n {
         if kind(image, i) == REG {
             *state.add(j) = *nets.add(operand(pins, i, 0));
             j += 1;

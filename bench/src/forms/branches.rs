@@ -1,26 +1,29 @@
-//! Form "table": unchecked reads, one table of codes, a branch for the kinds
-//! that are no gates, and passes for the OUTs and the REGs.
+//! Form "branches": unchecked reads, one table of codes, a walk over the nets with
+//! branches for the kinds that are no gates, and passes for the verdict, the
+//! outputs and the clock.
 
-use super::passes::{clock, verdict, write_outputs};
+use super::passes::{clock, lowest, verdict, write_outputs};
 use super::read::{kind, operand, operands};
 use super::table::TABLE;
 use crate::call::{Call, First};
-use crate::image::{Sizes, INPUT, MOST_NETS, NOT, REG};
+use crate::image::{Sizes, INPUT, MOST_NETS, NOT, OUT, REG};
 
 /// The k cycles of an accepted run.
 pub fn cycles(mut call: Call, z: Sizes) -> First {
     let (image, n) = (call.image.as_ptr(), z.nets);
     let mut nets = [0u8; MOST_NETS];
     let mut first = None;
+    // SAFETY, here and below: the image, the state and the rows have been accepted.
+    let (outs, regs) = unsafe { (lowest(image, n, OUT), lowest(image, n, REG)) };
     for cycle in 0..call.k {
-        // SAFETY: the image, the state and the rows have been accepted.
         unsafe {
             work_out(image, n, call.row(z, cycle), call.state, &mut nets);
+            let nets = nets.as_ptr();
             if first.is_none() {
-                first = verdict(image, n, nets.as_ptr()).map(|net| (cycle, net));
+                first = verdict(image, n, outs, nets).map(|net| (cycle, net));
             }
-            write_outputs(image, n, nets.as_ptr(), call.slot(z, cycle).as_mut_ptr());
-            clock(image, n, nets.as_ptr(), call.state.as_mut_ptr());
+            write_outputs(image, n, outs, nets, call.slot(z, cycle).as_mut_ptr());
+            clock(image, n, regs, nets, call.state.as_mut_ptr());
         }
     }
     first

@@ -1,0 +1,47 @@
+//! The library's calls, and those of another build of it where TRACKER_OTHER
+//! named one when this program was built.
+
+use tracker::ffi;
+
+#[cfg(other)]
+use crate::other;
+
+/// The calls of one build.
+#[derive(Clone, Copy)]
+pub struct Library {
+    pub name: &'static str,
+    pub check: fn(&[u8]) -> u64,
+    pub power_up: fn(&[u8], &mut [u8]) -> u64,
+    pub step: fn(&[u8], &mut [u8], &[u8], &mut [u8]) -> u64,
+    pub run: fn(&[u8], usize, &mut [u8], &[u8], &mut [u8]) -> u64,
+    pub double: fn(&[u8], &mut [u8]) -> u64,
+}
+
+/// The library first, then the other build.
+pub const LIBRARIES: &[Library] = &[
+    Library {
+        name: "library",
+        check: ffi::check,
+        power_up: ffi::power_up,
+        step: ffi::step,
+        run: ffi::run,
+        double: ffi::double,
+    },
+    #[cfg(other)]
+    Library {
+        name: "other",
+        check: other::check,
+        power_up: other::power_up,
+        step: other::step,
+        run: other::run,
+        double: other::double,
+    },
+];
+
+/// The build of a name.
+pub fn named(name: &str) -> Option<Library> {
+    LIBRARIES
+        .iter()
+        .find(|library| library.name == name)
+        .copied()
+}

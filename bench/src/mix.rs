@@ -1,0 +1,36 @@
+//! How the kinds of a random netlist's nets are mixed, and in what order.
+
+/// A mix of kinds.
+#[derive(Clone, Copy, PartialEq)]
+pub enum Mix {
+    /// All nine kinds are equally likely, in random order.
+    Equal,
+    /// 85 nets in 100 are gates and OUTs, in random order.
+    Gates,
+    /// As Gates, but without CONSTs beyond the first nets, and almost every net
+    /// is read: pin a of a gate or OUT is the oldest net that nothing reads yet.
+    Live,
+    /// The INPUTs first, then the REGs, the gates, and the OUTs last, and most
+    /// pins of a gate name a net shortly before it.
+    Real,
+}
+
+/// All mixes.
+pub const MIXES: [Mix; 4] = [Mix::Equal, Mix::Gates, Mix::Live, Mix::Real];
+
+impl Mix {
+    /// What the mix is called, in print and among arguments.
+    pub fn name(self) -> &'static str {
+        match self {
+            Mix::Equal => "equal",
+            Mix::Gates => "gates",
+            Mix::Live => "live",
+            Mix::Real => "real",
+        }
+    }
+}
+
+/// The mix of a name.
+pub fn named(name: &str) -> Option<Mix> {
+    MIXES.into_iter().find(|mix| mix.name() == name)
+}

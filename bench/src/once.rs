@@ -1,0 +1,140 @@
+//! `run` with K = 1: what a call costs that takes a single cycle.
+
+use std::hint::black_box;
+use std::time::Instant;
+
+use crate::agree::assert_agree;
+use crate::aligned::{print, row};
+use crate::cases::{Bytes, Case};
+use crate::count::{counted, valgrind_is_there};
+use crate::mix::{Mix, MIXES};
+use crate::peers::{named, Peer};
+use crate::rounds::{low_and_median, ratio};
+
+/// The numbers of nets.
+const NETS: [usize; 3] = [100, 1100, 8192];
+
+/// The rows that the calls take in turn.
+const ROWS: usize = 64;
+
+/// How often each peer is timed, in turn with the others, and about how many nets
+/// are worked out in the calls that are timed together.
+const ROUNDS: usize = 301;
+const TIMED_NETS: usize = 32768;
+
+/// The two numbers of calls that are counted.
+const FEW: usize = 8;
+const MANY: usize = 40;
+
+/// A peer's calls on one netlist, each with the next row and the state that the
+/// last one left.
+struct Calls {
+    peer: Peer,
+    state: Vec<u8>,
+    outputs: Vec<u8>,
+    next: usize,
+}
+
+impl Calls {
+    fn new(peer: Peer, bytes: &Bytes) -> Calls {
+        Calls {
+            peer,
+            state: bytes.start.clone(),
+            outputs: bytes.outputs(1),
+            next: 0,
+        }
+    }
+
+    fn make(&mut self, bytes: &Bytes, times: usize) {
+        for _ in 0..times {
+            let row = self.next % ROWS;
+            let answer = bytes.run_from(self.peer, row, 1, &mut self.state, &mut self.outputs);
+            black_box((answer, &self.state, &self.outputs));
+            self.next += 1;
+        }
+    }
+}
+
+/// The netlist of a mix and a number of nets.
+fn case(mix: Mix, nets: usize) -> Case {
+    Case {
+        mix,
+        nets,
+        protect: true,
+    }
+}
+
+/// All cases.
+fn cases() -> impl Iterator<Item = Case> {
+    MIXES
+        .into_iter()
+        .flat_map(|mix| NETS.map(|nets| case(mix, nets)))
+}
+
+/// Times the calls of all peers.
+pub fn print_times(peers: &[Peer]) {
+    let mut figures = vec![row("", peers.iter().map(|peer| peer.name))];
+    let mut ratios = vec![row("", peers.iter().skip(1).map(|peer| peer.name))];
+    for case in cases() {
+        let times = times(case, peers);
+        figures.push(row(
+            &case.name(),
+            times.iter().map(|list| low_and_median(list)),
+        ));
+        let rest = times.iter().skip(1);
+        ratios.push(row(&case.name(), rest.map(|list| ratio(&times[0], list))));
+    }
+    println!("\nrun with K = 1, ns a net: the lowest of {ROUNDS} rounds, in brackets the median");
+    print(&figures);
+    println!("\nrun with K = 1, how many times as long the library takes: by the lowest times,");
+    println!("in brackets the median of the ratios within the rounds");
+    print(&ratios);
+}
+
+/// The nanoseconds of a call for each net, for each peer and round.
+fn times(case: Case, peers: &[Peer]) -> Vec<Vec<f64>> {
+    let bytes = Bytes::of(case, ROWS);
+    assert_agree(&bytes, 1, peers);
+    let number = TIMED_NETS / case.nets;
+    let mut calls: Vec<Calls> = peers.iter().map(|peer| Calls::new(*peer, &bytes)).collect();
+    let mut times = vec![Vec::new(); peers.len()];
+    for _ in 0..ROUNDS {
+        for (calls, times) in calls.iter_mut().zip(&mut times) {
+            let start = Instant::now();
+            calls.make(&bytes, number);
+            let time = start.elapsed().as_secs_f64();
+            times.push(time * 1e9 / (case.nets * number) as f64);
+        }
+    }
+    assert!(calls.iter().all(|other| other.state == calls[0].state));
+    times
+}
+
+/// The mode `count once`: a mix, a number of nets, the name of a peer, and how many
+/// calls are made.
+pub fn some_calls(mix: Mix, nets: usize, peer: &str, times: usize) {
+    let bytes = Bytes::of(case(mix, nets), ROWS);
+    let peer = named(peer).expect("the name of a peer");
+    Calls::new(peer, &bytes).make(&bytes, times);
+}
+
+/// Counts the instructions of the calls of all peers.
+pub fn print_counts(peers: &[Peer]) {
+    println!("\nrun with K = 1, instructions a net");
+    if !valgrind_is_there() {
+        return;
+    }
+    let mut table = vec![row("", peers.iter().map(|peer| peer.name))];
+    for case in cases() {
+        let of = |peer: &Peer| {
+            let nets = case.nets.to_string();
+            let arguments = ["count", "once", case.mix.name(), &nets, peer.name];
+            match counted(&arguments, FEW, MANY, case.nets) {
+                Some(counts) => format!("{:.1}", counts.instructions),
+                None => "failed".to_string(),
+            }
+        };
+        table.push(row(&case.name(), peers.iter().map(of)));
+    }
+    print(&table);
+}

@@ -1,0 +1,93 @@
+//! The calls of another build of the library, on slices. Build.rs gives each of
+//! them the name that stands here.
+
+extern "C" {
+    fn other_check(image: *const u8, image_length: usize) -> u64;
+    fn other_power_up(
+        image: *const u8,
+        image_length: usize,
+        state: *mut u8,
+        state_length: usize,
+    ) -> u64;
+    fn other_step(
+        image: *const u8,
+        image_length: usize,
+        state: *mut u8,
+        state_length: usize,
+        row: *const u8,
+        row_length: usize,
+        nets: *mut u8,
+        nets_length: usize,
+    ) -> u64;
+    fn other_run(
+        image: *const u8,
+        image_length: usize,
+        k: usize,
+        state: *mut u8,
+        state_length: usize,
+        rows: *const u8,
+        rows_length: usize,
+        outputs: *mut u8,
+        outputs_length: usize,
+    ) -> u64;
+    fn other_double(
+        image: *const u8,
+        image_length: usize,
+        buffer: *mut u8,
+        buffer_length: usize,
+    ) -> u64;
+}
+
+// SAFETY, for each of the calls below: each pointer and length are those of a
+// slice, which is borrowed until the call returns; what is written is borrowed
+// mutably, so it overlaps no other slice.
+
+pub fn check(image: &[u8]) -> u64 {
+    unsafe { other_check(image.as_ptr(), image.len()) }
+}
+
+pub fn power_up(image: &[u8], state: &mut [u8]) -> u64 {
+    unsafe { other_power_up(image.as_ptr(), image.len(), state.as_mut_ptr(), state.len()) }
+}
+
+pub fn step(image: &[u8], state: &mut [u8], row: &[u8], nets: &mut [u8]) -> u64 {
+    unsafe {
+        other_step(
+            image.as_ptr(),
+            image.len(),
+            state.as_mut_ptr(),
+            state.len(),
+            row.as_ptr(),
+            row.len(),
+            nets.as_mut_ptr(),
+            nets.len(),
+        )
+    }
+}
+
+pub fn run(image: &[u8], k: usize, state: &mut [u8], rows: &[u8], outputs: &mut [u8]) -> u64 {
+    unsafe {
+        other_run(
+            image.as_ptr(),
+            image.len(),
+            k,
+            state.as_mut_ptr(),
+            state.len(),
+            rows.as_ptr(),
+            rows.len(),
+            outputs.as_mut_ptr(),
+            outputs.len(),
+        )
+    }
+}
+
+pub fn double(image: &[u8], buffer: &mut [u8]) -> u64 {
+    unsafe {
+        other_double(
+            image.as_ptr(),
+            image.len(),
+            buffer.as_mut_ptr(),
+            buffer.len(),
+        )
+    }
+}
