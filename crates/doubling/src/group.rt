@@ -30,7 +30,17 @@ fn put(d: &mut [u8], size: usize, i: usize, kind: u8, a: usize, b: usize, c: usi
 }
 
 // A group of two: the value net and the mark net, each by its kind and two operands.
-fn put_two(d: &mut [u8], size: usize, v: usize, value: u8, a: usize, b: usize, mark: u8, c: usize, e: usize)
+fn put_two(
+    d: &mut [u8],
+    size: usize,
+    v: usize,
+    value: u8,
+    a: usize,
+    b: usize,
+    mark: u8,
+    c: usize,
+    e: usize,
+)
     requires { ⌜ Room (now d) size v 2 ⌝ }
     requires { ⌜ (a < 65536) × (b < 65536) × (c < 65536) × (e < 65536) ⌝ }
     ensures { λ r. ⌜ now (d .exit) ≡ putNets (now (d .entry)) size v (net value a b 0 ∷ net mark c e 0 ∷ []) ⌝ }

@@ -19,7 +19,8 @@ use Rattle.netlist.proofs.Checked.{Checked, length-nets}
 use Rattle.tracker.specs.Cycle.{Walk, netByte, bytesOf}
 use Rattle.tracker.specs.Lists.{Low, placesFrom, Put, Settled, Prepared}
 use Rattle.tracker.proofs.Ruling.{sight, Ruled, out-passes-on, ruled-bytes}
-use Rattle.tracker.proofs.Gatewise.{same-or-not, there-or-not, gate-rule}
+use Rattle.tracker.proofs.Deciding.{same-or-not, there-or-not}
+use Rattle.tracker.proofs.Gatewise.{gate-rule}
 use Rattle.tracker.proofs.Placing.{places-selected, place-listed, not-listed}
 use Rattle.tracker.proofs.Selections.{selection-length}
 

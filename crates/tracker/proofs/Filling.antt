@@ -2,6 +2,7 @@
 use Prim.Native.Nat.{ℕ, _+_, _*_, _≤_, _<_}
 use native.Mathlib.Numerals.{add-one}
 use native.Mathlib.Omega.{arith}
+use mathlib.Core.Logic.{⊎-elim}
 use mathlib.Core.Path.{_≡_, refl, sym, ap, _∙_}
 use mathlib.Core.List.{List, [], _∷_, _++_, append-assoc, append-nil}
 use mathlib.Core.Bool.{cond}
@@ -13,6 +14,7 @@ use Rattle.netlist.specs.declared.image.Net.{Net}
 use Rattle.netlist.specs.Image.{sizesOf, kindAt, netAt, netsOf, count}
 use Rattle.netlist.proofs.Nets.{netsLeft, nets-next, nets-done, nets-left}
 use Rattle.netlist.proofs.Checked.{Checked}
+use Rattle.tracker.proofs.Deciding.{there-or-not}
 use Rattle.tracker.proofs.Selections.{Selection, selection-length}
 
 -- of the whole, the first j bytes stand in the buffer, and the rest is left
@@ -93,6 +95,15 @@ module _ {k : ℕ} {list : ℕ → List Net → List ℕ} {byte : ℕ → Net �
     pub pass-skips : (kindAt s i ≡ k → ⊥) → Pass selection s n lent buffer j (i + 1)
     pass-skips other = record { count-is = p .count-is; exact = p .exact; upto = omega arith; bytes = rw (this-net, ne-eqb (kindAt s i) k other) at (p .bytes); size = p .size }
 
-  -- with none
-  pub pass-ends : n ≤ i → buffer ≡ list 0 (netsOf s)
-  pass-ends h = fill-ends (rw (nets-done s n i (omega arith), selection .none i) at (p .bytes))
+  -- while a byte is missing, a net is left
+  pub pass-below : j < length buffer → i < n
+  pass-below h =
+      ⊎-elim (λ l. l) (λ l. let r = rw (nets-done s n i (omega arith), selection .none i) at (p .bytes .room) in absurd (omega arith)) (there-or-not i n)
+
+  -- with none missing
+  pub pass-full : length buffer ≤ j → buffer ≡ list 0 (netsOf s)
+  pass-full h = fill-ends (rw (none-left (list i (netsLeft s n i)) (omega (arith, p .bytes .room))) at (p .bytes))
+    where
+      none-left : (l : List ℕ) → length l ≡ 0 → l ≡ []
+      none-left [] h = refl
+      none-left (x ∷ xs) h = absurd (omega arith)

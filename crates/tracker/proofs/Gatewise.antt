@@ -18,25 +18,8 @@ use Rattle.netlist.specs.Image.{sizesOf, net, kindAt, operandAt, netAt}
 use Rattle.netlist.proofs.Checked.{Passes, is-const, is-input, is-reg, is-not, is-and, is-or, is-xor, is-mux, is-out, Checked, net-passes}
 use Rattle.tracker.specs.Cycle.{Walk, pinByte, netByte}
 use Rattle.tracker.specs.Lists.{Low, ruleAt, settledAt, Settled, Prepared}
+use Rattle.tracker.proofs.Deciding.{same-or-not, below-or-here, there-or-not}
 use Rattle.tracker.proofs.Ruling.{out-passes-on, same-byte}
-
--- NUMBERS that are the same, or not
-pub same-or-not : (i j : ℕ) → (i ≡ j) ⊎ (i ≡ j → ⊥)
-same-or-not i j = told (eqb i j) refl
-  where
-    told : (b : Bool) → eqb i j ≡ b → (i ≡ j) ⊎ (i ≡ j → ⊥)
-    told true e = inl (eqb-true i j e)
-    told false e = inr (eqb-false i j e)
-
-pub below-or-here : (i j : ℕ) → j < suc i → (j ≡ i) ⊎ (j < i)
-below-or-here i j l = eq-or-lt-of-le (le-of-suc-le-suc l)
-
-pub there-or-not : (i n : ℕ) → (i < n) ⊎ (n ≤ i)
-there-or-not i n = told (leb n i) refl
-  where
-    told : (b : Bool) → leb n i ≡ b → (i < n) ⊎ (n ≤ i)
-    told true e = inr (leb-true n i e)
-    told false e = inl (leb-false n i e)
 
 -- BYTES 0 to 3
 pub low-set : {bs : List ℕ} (i v : ℕ) → Low bs → v < 4 → Low (set bs i v)

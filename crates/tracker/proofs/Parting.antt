@@ -7,7 +7,7 @@ use mathlib.Core.Bool.{Bool, true, false, cond}
 use lib.Dec.{eqb, lit≤}
 use borrow.Author.Tests.{ne-eqb}
 use mathlib.Core.Logic.{⊎-elim}
-use Rattle.tracker.proofs.Gatewise.{same-or-not}
+use Rattle.tracker.proofs.Deciding.{same-or-not}
 use lib.ListN.{length, take, drop, length-append}
 use lib.Seq.{take-at, drop-at}
 use Rattle.gates.specs.Kinds.{INPUT, REG, OUT}

@@ -21,7 +21,7 @@ use Rattle.tracker.specs.Cycle.{pinByte, Verdict, clear, flow, outputsFr
 use Rattle.tracker.specs.Lists.{Low, placesFrom, protectedOf, Within, Places, Put, firstMarked}
 use Rattle.tracker.proofs.Selections.{Selection, outputs-selected, registers-selected, selection-length, place-below, selection-place}
 use Rattle.tracker.proofs.Filling.{Pass, pass-takes, pass-skips, Filled, fill-begins, fill-goes-on, fill-length, fill-ends}
-use Rattle.tracker.proofs.Gatewise.{below-or-here, there-or-not}
+use Rattle.tracker.proofs.Deciding.{below-or-here}
 
 -- THE LIST of the nets of kind k
 pub places-selected : (k : ℕ) → Selection k (placesFrom k) (λ i x. i)
@@ -238,10 +238,6 @@ marked-done list nets j h = ap (λ l. firstMarked l nets) (drop-of-length-le lis
 
 -- A LIST BEING MADE: a number may be written at the next place before it is known whether it belongs there
 module _ {k : ℕ} {s : List ℕ} {n : ℕ} {lent buffer : List ℕ} {j i : ℕ} (p : Pass (places-selected k) s n lent buffer j i) where
-  pub list-below : j < length buffer → i < n
-  unfolding placesFrom
-  list-below h = ⊎-elim (λ l. l) (λ l. let r = rw (nets-done s n i (omega arith)) at (p .bytes .room) in absurd (omega arith)) (there-or-not i n)
-
   scribbled : (y : ℕ) → Pass (places-selected k) s n lent (set buffer j y) j i
   scribbled y =
       record {
@@ -258,10 +254,3 @@ module _ {k : ℕ} {s : List ℕ} {n : ℕ} {lent buffer : List ℕ} {j i : ℕ}
       told : (b : Bool) → eqb (kindAt s i) k ≡ b → Pass (places-selected k) s n lent (set buffer j i) (j + cond b 1 0) (i + 1)
       told true o = pass-takes p below (eqb-true _ _ o)
       told false o = let z : j + 0 ≡ j = omega arith in rw z (pass-skips (scribbled i) below (eqb-false _ _ o))
-
-  pub list-ends : length buffer ≤ j → buffer ≡ placesFrom k 0 (netsOf s)
-  list-ends h = fill-ends (rw (none-left (placesFrom k i (netsLeft s n i)) (omega (arith, p .bytes .room))) at (p .bytes))
-    where
-      none-left : (l : List ℕ) → length l ≡ 0 → l ≡ []
-      none-left [] h = refl
-      none-left (x ∷ xs) h = absurd (omega arith)

@@ -2,7 +2,6 @@
 use crate::refusing::power_up_refusal;
 use crate::registers::take_starts;
 use netlist::Outcome;
-use netlist::sizes_of;
 ghost use mathlib.Core.Path.{_≡_};
 ghost use Rattle.tracker.specs.Answers.{poweredUp};
 ghost use Rattle.tracker.specs.Calls.{powerUpOf};
@@ -15,7 +14,6 @@ pub fn power_up(image: &[u8], state: &mut [u8]) -> Outcome
     if let Outcome::Refused(r) = o {
         return Outcome::Refused(r);
     }
-    let z = sizes_of(image);
-    take_starts(image, z.nets, state);
+    take_starts(image, state);
     Outcome::Done
 }

@@ -6,8 +6,8 @@ use mathlib.Core.Path.{_≡_, refl, sym, _∙_}
 use lib.ListN.{length}
 use Rattle.netlist.specs.Image.{sizesOf}
 use Rattle.netlist.proofs.Checked.{Checked, check-none}
-use Rattle.tracker.proofs.Filling.{Pass, pass-begins}
-use Rattle.tracker.proofs.Placing.{places-selected, list-below, list-goes-on, list-ends}
+use Rattle.tracker.proofs.Filling.{Pass, pass-begins, pass-below, pass-full}
+use Rattle.tracker.proofs.Placing.{places-selected, list-goes-on}
 use Rattle.tracker.proofs.lists.list_nets.Statement.{statement}
 use Rattle.tracker.proofs.lists.list_nets.Tie as tie
 
@@ -27,7 +27,7 @@ loop-holds c =
 
 -- a net is there
 below : (c : tie.In-loop Inv-loop μ-loop) → c .before .loop .i < sizesOf (c .before .before .before .before .args .image .now) .nets
-below c = list-below (c .before .loop .inv) (c .loop-test .taken)
+below c = pass-below (c .before .loop .inv) (omega (arith, c .loop-test .taken))
 
 few : (c : tie.In-loop Inv-loop μ-loop) → c .before .loop .i < 8192
 few c = omega (arith, below c, checked (c .before .before .before .before) .few-nets)
@@ -66,4 +66,4 @@ list-nets-spec =
     (λ c. omega (arith, below (c .before .before)))
     loop-again
     (λ c. c .before .loop .inv .size)
-    (λ c. list-ends (c .before .loop .inv) (c .loop-test .left)))
+    (λ c. pass-full (c .before .loop .inv) (c .loop-test .left)))
