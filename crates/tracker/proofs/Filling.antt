@@ -95,12 +95,16 @@ module _ {k : ℕ} {list : ℕ → List Net → List ℕ} {byte : ℕ → Net �
     pub pass-skips : (kindAt s i ≡ k → ⊥) → Pass selection s n lent buffer j (i + 1)
     pass-skips other = record { count-is = p .count-is; exact = p .exact; upto = omega arith; bytes = rw (this-net, ne-eqb (kindAt s i) k other) at (p .bytes); size = p .size }
 
+  -- with no net left
+  pub pass-ends : n ≤ i → buffer ≡ list 0 (netsOf s)
+  pass-ends h = fill-ends (rw (nets-done s n i (omega arith), selection .none i) at (p .bytes))
+
   -- while a byte is missing, a net is left
   pub pass-below : j < length buffer → i < n
   pass-below h =
       ⊎-elim (λ l. l) (λ l. let r = rw (nets-done s n i (omega arith), selection .none i) at (p .bytes .room) in absurd (omega arith)) (there-or-not i n)
 
-  -- with none missing
+  -- with no byte missing
   pub pass-full : length buffer ≤ j → buffer ≡ list 0 (netsOf s)
   pass-full h = fill-ends (rw (none-left (list i (netsLeft s n i)) (omega (arith, p .bytes .room))) at (p .bytes))
     where

@@ -1,4 +1,4 @@
-// The registers of a netlist: their bytes at power-up, and after a clock. A pass looks for as many REGs as the state has bytes.
+// The registers of a netlist: their bytes at power-up, and after a clock.
 use gates::REG;
 use netlist::kind_of;
 use netlist::operand_of;
@@ -22,14 +22,14 @@ fn start_byte(b: usize) -> u8
 }
 
 // Every register takes its start byte.
-pub fn take_starts(image: &[u8], state: &mut [u8])
+pub fn take_starts(image: &[u8], n: usize, state: &mut [u8])
     requires { ⌜ checkRefusal (now image) ≡ none ⌝ }
-    requires { ⌜ length (now state) ≡ sizesOf (now image) .registers ⌝ }
+    requires { ⌜ (n ≡ sizesOf (now image) .nets) × (length (now state) ≡ sizesOf (now image) .registers) ⌝ }
     ensures { λ r. ⌜ now (state .exit) ≡ starts (netsOf (now (image .entry))) ⌝ }
 {
     let mut j: usize = 0;
     let mut i: usize = 0;
-    while j < state.len() {
+    while i < n {
         if kind_of(image, i) == REG {
             state[j] = start_byte(operand_of(image, i, 1));
             j += 1;
@@ -39,14 +39,14 @@ pub fn take_starts(image: &[u8], state: &mut [u8])
 }
 
 // The clock: every register takes the byte of its net, all together.
-pub fn clock(image: &[u8], nets: &[u8], state: &mut [u8])
+pub fn clock(image: &[u8], n: usize, nets: &[u8], state: &mut [u8])
     requires { ⌜ checkRefusal (now image) ≡ none ⌝ }
-    requires { ⌜ (length (now nets) ≡ sizesOf (now image) .nets) × (length (now state) ≡ sizesOf (now image) .registers) ⌝ }
+    requires { ⌜ (n ≡ sizesOf (now image) .nets) × (length (now nets) ≡ n) × (length (now state) ≡ sizesOf (now image) .registers) ⌝ }
     ensures { λ r. ⌜ now (state .exit) ≡ clocked (netsOf (now (image .entry))) (now (nets .entry)) ⌝ }
 {
     let mut j: usize = 0;
     let mut i: usize = 0;
-    while j < state.len() {
+    while i < n {
         if kind_of(image, i) == REG {
             let a = operand_of(image, i, 0);
             state[j] = nets[a];

@@ -2,6 +2,7 @@
 use crate::refusing::power_up_refusal;
 use crate::registers::take_starts;
 use netlist::Outcome;
+use netlist::sizes_of;
 ghost use mathlib.Core.Path.{_≡_};
 ghost use Rattle.tracker.specs.Answers.{poweredUp};
 ghost use Rattle.tracker.specs.Calls.{powerUpOf};
@@ -14,6 +15,7 @@ pub fn power_up(image: &[u8], state: &mut [u8]) -> Outcome
     if let Outcome::Refused(r) = o {
         return Outcome::Refused(r);
     }
-    take_starts(image, state);
+    let z = sizes_of(image);
+    take_starts(image, z.nets, state);
     Outcome::Done
 }

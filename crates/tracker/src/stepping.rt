@@ -24,6 +24,6 @@ pub fn step(image: &[u8], state: &mut [u8], row: &[u8], nets: &mut [u8]) -> Step
     let t = table();
     work_out(image, z.nets, &t, row, state, nets);
     let verdict = verdict_of(image, z.nets, nets);
-    clock(image, nets, state);
+    clock(image, z.nets, nets, state);
     StepAnswer::Done(verdict)
 }

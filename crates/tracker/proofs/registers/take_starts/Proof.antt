@@ -2,40 +2,30 @@
 use Prim.Native.Nat.{_-_, _<_}
 use native.Mathlib.Omega.{arith}
 use mathlib.Core.Logic.{⊎-elim}
-use mathlib.Core.Path.{_≡_, refl, sym, _∙_}
+use mathlib.Core.Path.{_≡_, sym, _∙_}
 use lib.ListN.{length}
 use borrow.Author.Needs.{needs}
 use Rattle.gates.specs.Kinds.{REG}
-use Rattle.netlist.specs.Image.{sizesOf, kindAt, netAt}
+use Rattle.netlist.specs.Image.{kindAt, netAt}
 use Rattle.netlist.proofs.Checked.{check-none}
 use Rattle.tracker.specs.Calls.{start, starts}
 use Rattle.tracker.proofs.Selections.{registers-selected}
-use Rattle.tracker.proofs.Filling.{Pass, pass-reads, pass-begins, pass-room, pass-takes, pass-skips, pass-below, pass-full}
+use Rattle.tracker.proofs.Filling.{Pass, pass-reads, pass-begins, pass-room, pass-takes, pass-skips, pass-ends}
 use Rattle.tracker.proofs.registers.take_starts.Statement.{statement}
 use Rattle.tracker.proofs.registers.take_starts.Tie as tie
 
 abbrev Inv-loop : tie.InvT-loop
-Inv-loop image state₀ j₀ i₀ state j i = Pass (registers-selected (λ x. start (x .b))) image (sizesOf image .nets) state₀ state j i
+Inv-loop image n state₀ j₀ i₀ state j i = Pass (registers-selected (λ x. start (x .b))) image n state₀ state j i
 
 abbrev μ-loop : tie.MeasureT-loop
-μ-loop image state₀ j₀ i₀ state j i = sizesOf image .nets - i
+μ-loop image n state₀ j₀ i₀ state j i = n - i
 
 loop-holds : tie.Need-loop-holds Inv-loop μ-loop
 loop-holds c =
     let begin = c .before .before in
+    let size = begin .pre .1 in
     let image = check-none _ .0 (begin .pre .0) in
-    pass-begins _ image refl (begin .pre .1 ∙ image .registers)
-
--- a net is there
-module _ (c : tie.In-loop Inv-loop μ-loop) where
-  abbrev entry : tie.Start Inv-loop μ-loop
-  entry = c .before .before .before .before
-
-  below : c .before .loop .i < sizesOf (entry .args .image .now) .nets
-  below = pass-below (c .before .loop .inv) (c .loop-test .taken)
-
-  few : c .before .loop .i < 8192
-  few = omega (arith, below, check-none _ .0 (entry .pre .0) .few-nets)
+    pass-begins _ image (size .0) (size .1 ∙ image .registers)
 
 is-register : (c : tie.Then1 Inv-loop μ-loop)
     → let at = c .before .before .before in
@@ -44,7 +34,7 @@ is-register c = sym (c .before .kind-of .ensures) ∙ c .if1 .taken
 
 -- a register has a byte in the state
 room : (c : tie.Then1 Inv-loop μ-loop) → let at = c .before .before .before in at .loop .j < length (at .loop .state)
-room c = pass-room (c .before .before .before .loop .inv) (below (c .before .before)) (is-register c)
+room c = pass-room (c .before .before .before .loop .inv) (c .before .before .loop-test .taken) (is-register c)
 
 slice-write-state : tie.Need-slice-write-state Inv-loop μ-loop
 slice-write-state c = room (c .before .before)
@@ -59,14 +49,15 @@ unfolding netAt
 loop-again c =
     let turn = c .before .before in
     let pass = turn .before .loop .inv in
+    let below = turn .loop-test .taken in
     ⊎-elim
-    (λ w. rw (w .3, w .4, w .2 .ensures, w .1 .ensures .0) (pass-takes pass (below turn) (is-register (record { before = c .before; if1 = w .0 }))))
-    (λ w. rw (w .1, w .2) (pass-skips pass (below turn) (λ e. w .0 .left (c .before .kind-of .ensures ∙ e))))
+    (λ w. rw (w .3, w .4, w .2 .ensures, w .1 .ensures .0, ← pass .count-is) (pass-takes pass below (is-register (record { before = c .before; if1 = w .0 }))))
+    (λ w. rw (w .1, w .2) (pass-skips pass below (λ e. w .0 .left (c .before .kind-of .ensures ∙ e))))
     (c .if1 .came)
 
 returns : tie.Need-returns Inv-loop μ-loop
 unfolding starts
-returns c = pass-full (c .before .loop .inv) (c .loop-test .left)
+returns c = pass-ends (c .before .loop .inv) (c .loop-test .left)
 
 pub take-starts-spec : {M : Type 1} → statement M
 take-starts-spec =
@@ -75,13 +66,13 @@ take-starts-spec =
     Inv-loop
     μ-loop
     loop-holds
-    (λ c κs. omega (arith, below c, c .before .loop .inv .exact))
-    (λ c κs. pass-reads (c .before .before .before .loop .inv) (below (c .before .before)) 1 (omega arith))
+    (λ c κs. search needs)
+    (λ c κs. pass-reads (c .before .before .before .loop .inv) (c .before .before .loop-test .taken) 1 (omega arith))
     (λ c κs. search needs)
     slice-write-state
     add-j
-    (λ c. omega (arith, few (c .before .before)))
-    (λ c. omega (arith, below (c .before .before)))
+    (λ c. search needs)
+    (λ c. search needs)
     loop-again
     (λ c. c .before .loop .inv .size)
     returns)

@@ -1,7 +1,9 @@
 -- `tracker::starting::power_up` meets its contract: a refusal leaves the state, and else the registers take their starts.
 use mathlib.Core.Path.{_≡_, sym, ap, _∙_}
 use mathlib.Core.Option.{none}
+use native.Mathlib.Omega.{arith}
 use borrow.Author.Needs.{needs}
+use Rattle.netlist.specs.declared.image.Sizes.{Sizes}
 use Rattle.netlist.specs.Check.{refusalIn}
 use Rattle.netlist.proofs.Checked.{check-none}
 use Rattle.tracker.specs.Calls.{powerUpRefusal}
@@ -18,15 +20,19 @@ returns c =
 accepted : (c : tie.After-enum-told) → let args = c .before .before .before .before .before .before .args in powerUpRefusal (args .image .now) (args .state .now) ≡ none
 accepted c = sym (c .before .before .power-up-refusal .ensures) ∙ ap refusalIn (c .enum-told .given .1)
 
+sizes-of-requires : tie.Need-sizes-of-requires
+sizes-of-requires c κs = let image = power-up-none _ _ .0 (accepted c) .0 in omega (arith, image .exact)
+
 take-starts-requires : tie.Need-take-starts-requires
 take-starts-requires c κs =
-    let ready = power-up-none _ _ .0 (accepted (c .before)) in
-    (check-none _ .1 (ready .0), ready .1)
+    let sized = c .before in
+    let ready = power-up-none _ _ .0 (accepted (sized .before)) in
+    (check-none _ .1 (ready .0), (ap (λ (z : Sizes). z .nets) (sized .sizes-of .ensures), ready .1))
 
 returns-2 : tie.Need-returns-2
 returns-2 c =
     let started = c .before .before in
-    rw (started .take-starts .ensures) (sym (power-up-accepted _ _ (accepted (started .before .before))))
+    rw (started .take-starts .ensures) (sym (power-up-accepted _ _ (accepted (started .before .before .before))))
 
 pub power-up-spec : {M : Type 1} → statement M
 power-up-spec =
@@ -37,6 +43,7 @@ power-up-spec =
     (λ c. search needs)
     returns
     (λ c. search needs)
+    sizes-of-requires
     take-starts-requires
     (λ c. search needs)
     returns-2)

@@ -61,7 +61,7 @@ clock-requires c κs =
     let worked = c .before .before .before .before .before .before in
     let sized = worked .before .before .before .before .before in
     let r = ready (sized .before) in
-    (check-none _ .1 (r .image), (nets-size worked ∙ nets-are sized, r .state .size))
+    (check-none _ .1 (r .image), (nets-are sized, nets-size worked, r .state .size))
 
 returns-2 : tie.Need-returns-2
 unfolding cycleOf asStep
