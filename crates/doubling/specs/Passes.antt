@@ -16,7 +16,7 @@ pub record PairFits (p : Pair) : Type 0 where
   pub value : p .value < 65536
   pub mark : p .mark < 65536
 
--- the buffer d has the length of an image of n nets, of which k stand from net v on
+-- the buffer d is as long as an image of n nets, and k nets from net v on are among these; there are few enough for the number of each to fit a u16
 pub record Room (d : List ℕ) (n v k : ℕ) : Type 0 where
   pub long : length d ≡ 8 + 7 * n
   pub within : v + k ≤ n

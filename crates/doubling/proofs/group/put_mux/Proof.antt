@@ -1,47 +1,19 @@
--- `doubling::group::put_mux` meets its contract: its nets, one by one.
+-- `doubling::group::put_mux` meets its contract: its nets, in parts of one and two.
 use borrow.Author.Needs.{needs}
-use Rattle.doubling.proofs.OneByOne.{done, next, first, together}
+use Rattle.doubling.proofs.InParts.{done, one, two, all-put}
 use Rattle.doubling.proofs.group.put_mux.Statement.{statement}
 use Rattle.doubling.proofs.group.put_mux.Tie as tie
-
--- the function's start, which lies too far back for a search to find what is asked there, from behind a net
-abbrev behind-w : tie.After-put5 → tie.Start
-behind-w w =
-    let r = w .before .before .before .before in
-    let q = r .before .before .before .before in
-    let p = q .before .before .before .before in
-    let value = p .before .before .before .before in
-    value .before .before .before
-
-abbrev behind-z : tie.After-put6 → tie.Start
-behind-z z = behind-w (z .before .before .before .before)
-
-put-requires-6 : tie.Need-put-requires-6
-put-requires-6 c κs = let start = behind-w (c .before .before .before) in search needs
-
-put-requires-7 : tie.Need-put-requires-7
-put-requires-7 c κs = let start = behind-z (c .before .before .before) in search needs
-
-same-length : tie.Need-same-length
-same-length c = let mark = c .before .before in let start = behind-z (mark .before .before .before .before) in search needs
 
 returns : tie.Need-returns
 returns c =
     let mark = c .before .before in
     let z = mark .before .before .before .before in
-    let w = z .before .before .before .before in
-    let r = w .before .before .before .before in
-    let q = r .before .before .before .before in
-    let p = q .before .before .before .before in
+    let r = z .before .before .before .before in
+    let p = r .before .before .before .before in
     let value = p .before .before .before .before in
-    together
-    (first (value .put .ensures .0)
-    (next (p .put2 .ensures .0)
-    (next (q .put3 .ensures .0)
-    (next (r .put4 .ensures .0)
-    (next (w .put5 .ensures .0)
-    (next (z .put6 .ensures .0)
-    (next (mark .put7 .ensures .0) done)))))))
+    all-put
+    (one (value .put .ensures)
+    (two (p .put-two .ensures) (two (r .put-two2 .ensures) (one (z .put2 .ensures) (one (mark .put3 .ensures) done)))))
 
 pub put-mux-spec : {M : Type 1} → statement M
 put-mux-spec =
@@ -52,13 +24,11 @@ put-mux-spec =
     (λ c. search needs)
     (λ c. search needs)
     (λ c. search needs)
+    (λ c κs. search needs)
+    (λ c κs. search needs)
+    (λ c κs. search needs)
+    (λ c κs. search needs)
     (λ c. search needs)
     (λ c κs. search needs)
-    (λ c κs. search needs)
-    (λ c κs. search needs)
-    (λ c κs. search needs)
-    (λ c κs. search needs)
-    put-requires-6
-    put-requires-7
-    same-length
+    (λ c. search needs)
     returns)

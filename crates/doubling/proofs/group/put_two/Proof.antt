@@ -1,6 +1,6 @@
 -- `doubling::group::put_two` meets its contract: two nets, one by one.
 use borrow.Author.Needs.{needs}
-use Rattle.doubling.proofs.OneByOne.{done, next, first, together}
+use Rattle.doubling.proofs.InParts.{done, one, all-put}
 use Rattle.doubling.proofs.group.put_two.Statement.{statement}
 use Rattle.doubling.proofs.group.put_two.Tie as tie
 
@@ -8,7 +8,7 @@ returns : tie.Need-returns
 returns c =
     let mark = c .before .before in
     let value = mark .before .before .before .before in
-    together (first (value .put .ensures .0) (next (mark .put2 .ensures .0) done))
+    all-put (one (value .put .ensures) (one (mark .put2 .ensures) done))
 
 pub put-two-spec : {M : Type 1} → statement M
 put-two-spec =

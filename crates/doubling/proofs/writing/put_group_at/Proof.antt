@@ -9,7 +9,7 @@ use Rattle.netlist.specs.declared.image.Net.{Net}
 use Rattle.netlist.specs.Image.{sizesOf, netAt, netsOf}
 use Rattle.netlist.specs.Writing.{putNets}
 use Rattle.netlist.proofs.Checked.{Passes, kind-most, Small, operands-small, Checked, check-none, net-passes}
-use Rattle.doubling.specs.Doubled.{groupAt, valueNet, markNet}
+use Rattle.doubling.specs.Doubled.{valueNet, markNet}
 use Rattle.doubling.proofs.Sums.{start-positive, pair-is, group-pinned}
 use Rattle.doubling.proofs.writing.put_group_at.Statement.{statement}
 use Rattle.doubling.proofs.writing.put_group_at.Tie as tie
