@@ -4,11 +4,13 @@
 // array, the constants are set and the lowest gate is found. In a cycle the
 // row's and the state's bytes are put at their nets, the gates are settled in net
 // order, four nets to a turn, and the verdict, the outputs and the clock go
-// through the lists.
+// through the lists. It includes nothing, so that a clang without headers, such as
+// the one that compiles the library, takes it too.
 
-#include <stddef.h>
-#include <stdint.h>
-#include <string.h>
+typedef __SIZE_TYPE__ size_t;
+typedef __UINT8_TYPE__ uint8_t;
+typedef __UINT16_TYPE__ uint16_t;
+typedef __UINT64_TYPE__ uint64_t;
 
 enum { HEAD = 8, MOST_NETS = 8192 };
 enum { CONST = 0, INPUT = 1, REG = 2, NOT = 3, OUT = 8 };
@@ -16,7 +18,7 @@ enum { CONST = 0, INPUT = 1, REG = 2, NOT = 3, OUT = 8 };
 // The u16 at a place. The machine has the low byte first, as the image has.
 static inline size_t u16_at(const uint8_t *place) {
     uint16_t number;
-    memcpy(&number, place, 2);
+    __builtin_memcpy(&number, place, 2);
     return number;
 }
 

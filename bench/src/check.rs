@@ -4,8 +4,9 @@
 
 use crate::call::Call;
 use crate::image::{
-    net_at, sizes_of, Net, Sizes, CONST, HEAD, INPUT, MOST_NETS, MUX, NOT, OUT, REG,
+    sizes_of, u16_at, Net, Sizes, CONST, HEAD, INPUT, MOST_NETS, MUX, NOT, OUT, REG,
 };
+use crate::limits::{Limits, NO_KIND};
 
 /// A run takes at most this many cycles.
 const MOST_CYCLES: usize = 4096;
@@ -27,11 +28,17 @@ pub fn check(image: &[u8]) -> Result<Sizes, u64> {
     if image.len() != HEAD + 7 * sizes.nets {
         return Err(refusal(3, 0));
     }
-    let mut counts = [0usize; 9];
-    for i in 0..sizes.nets {
-        let net = net_at(image, sizes.nets, i);
-        check_net(net, i, sizes.nets).map_err(|number| refusal(number, i))?;
-        counts[usize::from(net.kind)] += 1;
+    let mut limits = Limits::new(sizes.nets);
+    let mut counts = [0usize; NO_KIND + 1];
+    let (kinds, operands) = image[HEAD..].split_at(sizes.nets);
+    for (i, (kind, operands)) in kinds.iter().zip(operands.as_chunks().0).enumerate() {
+        let net = net_of(*kind, operands);
+        let kind = usize::from(*kind).min(NO_KIND);
+        if !limits.allow(kind, net) {
+            return Err(refusal(bad_net(net, i, sizes.nets), i));
+        }
+        limits.move_on();
+        counts[kind] += 1;
     }
     let wanted = [sizes.inputs, sizes.registers, sizes.outputs];
     if wanted != [counts[1], counts[2], counts[8]] {
@@ -40,31 +47,38 @@ pub fn check(image: &[u8]) -> Result<Sizes, u64> {
     Ok(sizes)
 }
 
-/// The number of the refusal 4 to 7 that net i of n draws.
-fn check_net(net: Net, i: usize, n: usize) -> Result<(), u64> {
+/// A net of a kind with the bytes of its operands.
+#[inline(always)]
+fn net_of(kind: u8, operands: &[u8; 6]) -> Net {
+    Net {
+        kind,
+        a: u16_at(operands, 0),
+        b: u16_at(operands, 2),
+        c: u16_at(operands, 4),
+    }
+}
+
+/// The number of the refusal 4 to 7 that net i of n draws, which is refused.
+#[cold]
+fn bad_net(net: Net, i: usize, n: usize) -> u64 {
     let below = |pin: u16, limit: usize| usize::from(pin) < limit;
-    // Whether the pins name nets that they may name, whether the settings are
-    // in range, and whether the operands not listed are 0.
-    let (pins, settings, unlisted) = match net.kind {
-        CONST => (true, net.a <= 1, net.b | net.c == 0),
-        INPUT => (true, true, net.a | net.b | net.c == 0),
-        REG => (below(net.a, n), net.b <= 2, net.c == 0),
-        NOT => (below(net.a, i), true, net.b | net.c == 0),
-        MUX => (below(net.a.max(net.b).max(net.c), i), true, true),
-        OUT => (below(net.a, i), net.b <= 1, net.c == 0),
-        4..=6 => (below(net.a.max(net.b), i), true, net.c == 0),
-        _ => return Err(4),
+    // Whether the pins name nets that they may name, and whether the settings
+    // are in range.
+    let (pins, settings) = match net.kind {
+        CONST => (true, net.a <= 1),
+        INPUT => (true, true),
+        REG => (below(net.a, n), net.b <= 2),
+        NOT => (below(net.a, i), true),
+        MUX => (below(net.a.max(net.b).max(net.c), i), true),
+        OUT => (below(net.a, i), net.b <= 1),
+        4..=6 => (below(net.a.max(net.b), i), true),
+        _ => return 4,
     };
-    if !pins {
-        return Err(5);
+    match (pins, settings) {
+        (false, _) => 5,
+        (_, false) => 6,
+        _ => 7,
     }
-    if !settings {
-        return Err(6);
-    }
-    if !unlisted {
-        return Err(7);
-    }
-    Ok(())
 }
 
 /// Checks all that a run is lent: the image's sizes, or a refusal 1 to 14.

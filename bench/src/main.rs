@@ -23,6 +23,7 @@ mod image;
 #[cfg(c_peer)]
 mod in_c;
 mod libraries;
+mod limits;
 mod linear;
 mod listings;
 mod mix;
