@@ -24,6 +24,7 @@ use Rattle.listing_rows.specs.declared.output.Progress.{Progress}
 use Rattle.listing_rows.specs.Printed.{Printed, printed, withLast, Room}
 use Rattle.listing_rows.specs.Rows.{rowsOf}
 use Rattle.listing_rows.specs.Taken.{AcceptedState, withLines, held, Taken, Grown, Asks, Leaves}
+use Rattle.listing_rows.proofs.Printing.{last-leaves}
 use Rattle.listing_rows.proofs.Lines.{outs-length}
 use Rattle.listing_rows.proofs.Answering.{Lent, done-good, run-bad, refused-bad}
 use Rattle.listing_rows.proofs.ByRuns.{taken-from, taken-to, good-open, good-state, good-taken, good-fewer, good-bytes, row-there, good-codes, bad-taken}
@@ -34,11 +35,6 @@ is-state {st = st} a = record { size = a .size; codes = byte-none 11 0 st .0 (a 
 
 pub accepted-state : {s st : List ℕ} → IsState s st → AcceptedState s st
 accepted-state {st = st} a = record { size = a .size; codes = byte-none 11 0 st .1 (a .codes) }
-
--- a last line leaves an empty text
-last-leaves : (line before : List ℕ) {text : List ℕ} (p q : Progress) → printed text q ≡ withLast line (printed before p) → (q .used ≡ 0) × (q .cycles ≡ p .cycles)
-unfolding withLast
-last-leaves line before p q e = (ap (λ (x : Printed). x .used) e, ap (λ (x : Printed). x .cycles) e)
 
 -- what a run is lent
 lent-of : {s : List ℕ} {i k : ℕ} {list st rows outputs text : List ℕ} {p : Progress} → Asks s i k list st rows outputs text p → Lent s i st k rows outputs

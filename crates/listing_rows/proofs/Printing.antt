@@ -59,6 +59,11 @@ module _ (before : List ℕ) (p : Progress) (line : List ℕ) (room : Room befor
   unfolding withLast
   last-put i f = f ∙ rw (i, next-put .0)
 
+-- a last line leaves an empty text
+pub last-leaves : (line before : List ℕ) {text : List ℕ} (p q : Progress) → printed text q ≡ withLast line (printed before p) → (q .used ≡ 0) × (q .cycles ≡ p .cycles)
+unfolding withLast
+last-leaves line before p q e = (ap (λ (x : Printed). x .used) e, ap (λ (x : Printed). x .cycles) e)
+
 -- the last lines are short
 pub end-most : (cycles : ℕ) → length (endLine cycles) ≤ 8240
 end-most cycles = omega (arith, end-length cycles, decimal-most cycles)

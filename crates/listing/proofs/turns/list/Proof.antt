@@ -1,4 +1,4 @@
--- `listing::cycles::list` meets its contract: an image that is accepted has sizes, and any other is refused.
+-- `listing::turns::list` meets its contract: an image that is accepted has sizes, and any other is refused.
 use native.Mathlib.Omega.{arith}
 use mathlib.Core.Path.{_≡_, sym, ap, _∙_}
 use mathlib.Core.Option.{none}
@@ -7,10 +7,10 @@ use Rattle.netlist.specs.declared.image.Sizes.{Sizes}
 use Rattle.netlist.specs.Check.{checkRefusal, refusalIn}
 use Rattle.netlist.proofs.Checked.{check-none}
 use Rattle.listing_text.specs.Lines.{refusedLine}
-use Rattle.listing.specs.Printed.{withLast}
-use Rattle.listing.proofs.Listings.{blank-is, listing-refused, refused-only, reads-none, listing-end}
-use Rattle.listing.proofs.cycles.list.Statement.{statement}
-use Rattle.listing.proofs.cycles.list.Tie as tie
+use Rattle.listing_rows.specs.Printed.{withLast}
+use Rattle.listing.proofs.Listings.{blank-is, blank-room, listing-refused, refused-only, reads-none, listing-end}
+use Rattle.listing.proofs.turns.list.Statement.{statement}
+use Rattle.listing.proofs.turns.list.Tie as tie
 
 accepted : (c : tie.After-enum-told) → checkRefusal (c .before .before .before .before .args .image .now) ≡ none
 accepted c = sym (c .before .before .check .ensures) ∙ ap refusalIn (c .enum-told .given .1)
@@ -20,6 +20,9 @@ sizes-of-requires c κs = omega (arith, check-none _ .0 (accepted c) .exact)
 
 list-accepted-requires : tie.Need-list-accepted-requires
 list-accepted-requires c κs = (accepted (c .before .before), c .before .sizes-of .ensures)
+
+print-refusal-requires : tie.Need-print-refusal-requires
+print-refusal-requires c κs = let first = c .begun .ensures in blank-room _ (c .begun .result) (first .1) (first .2) (search needs)
 
 returns : tie.Need-returns
 returns c =
@@ -39,7 +42,7 @@ returns-2 c =
     let checked = told .before .before .before in
     let args = checked .before .before .args in
     let drawn = sym (checked .check .ensures) ∙ ap refusalIn (told .before .o .given .1) in
-    let e = c .print-refusal .ensures .0 ∙ ap (withLast (refusedLine _)) (blank-is _ (c .before .begun .result) (first .0) (first .1) (first .2)) in
+    let e = c .print-refusal .ensures .0 ∙ ap (withLast (refusedLine _)) (blank-is _ (c .before .begun .result) (first .0) (first .1) (first .3)) in
     (λ h. e ∙ listing-refused (args .image .now) (args .text .now) drawn, λ h. refused-only (args .image .now) (args .text .now) drawn e)
 
 pub list-spec : {M : Type 1} → statement M
@@ -52,6 +55,6 @@ list-spec =
     list-accepted-requires
     (λ c. search needs)
     (λ c κs. search needs)
-    (λ c κs. search needs)
+    print-refusal-requires
     returns
     returns-2)
