@@ -14,11 +14,11 @@ use Rattle.tracker.specs.Cycle.{FirstFlow}
 use Rattle.tracker.specs.Calls.{Answer, done, refused, runOf}
 use Rattle.listing_text.specs.Lines.{cycleLine, endLine, refusedLine}
 use Rattle.listing_text.proofs.Putting.{sets-append}
-use Rattle.listing.specs.Printed.{withCycle, withLast}
-use Rattle.listing.specs.Rows.{Listed, withAnswer, withRow, withShort, withRows, withEnd}
+use Rattle.listing_rows.specs.Printed.{withCycle, withLast}
+use Rattle.listing_rows.specs.Rows.{Listed, withAnswer, withRow, withShort, withRows, withEnd}
 use Rattle.listing.specs.Listing.{linesOf}
-use Rattle.listing.proofs.Printing.{next-behind}
-use Rattle.listing.proofs.Taking.{rows-closed, end-closed}
+use Rattle.listing_rows.proofs.Printing.{next-behind}
+use Rattle.listing_rows.proofs.Taking.{rows-closed, end-closed}
 
 -- a listing that goes on
 abbrev goingOn : (st outs text : List ℕ) (used n : ℕ) → Listed
@@ -30,10 +30,10 @@ pub last-there : (line text : List ℕ) (used n : ℕ) → used + length line + 
 unfolding withLast
 last-there line text used n h = rw (next-behind (length text) used (omega arith))
 
-module _ (s : List ℕ) (i : ℕ) (some : 0 < i) where
+module _ (s : List ℕ) (i : ℕ) where
   -- nothing follows a listing that is closed
   closed-there : (rows : List (List ℕ)) (l : Listed) → l .printed .goesOn ≡ false → withEnd (withRows s i rows l) .printed .text ≡ l .printed .text
-  closed-there rows l h = rw (rows-closed s i some rows l h) (ap (λ (x : Listed). x .printed .text) (end-closed l h))
+  closed-there rows l h = rw (rows-closed s i rows l h) (ap (λ (x : Listed). x .printed .text) (end-closed l h))
 
   -- a row of which the text has room for the lines
   module _ (row : List ℕ) (rows : List (List ℕ)) (st outs text : List ℕ) (used n : ℕ) where

@@ -6,7 +6,7 @@ use Rattle.netlist.specs.Check.{netRefusal, netsRefusal, checkRefusal, badByte,
 use Rattle.tracker.specs.Cycle.{pinByte, netByte, past, walk, bytesOf, verdictFrom, outputsFrom, registers, clocked, cycleOf, cyclesOf, outputsOf, stateAfter, firstOf, firstFlow}
 use Rattle.tracker.specs.Calls.{start, starts, asRun, runRefusal, runOf}
 use Rattle.listing_text.specs.Lines.{digitsUpTo, decimal, outputDigits, cycleLine, endLine}
-use Rattle.listing.specs.Rows.{rowsUpTo}
+use Rattle.listing_rows.specs.Rows.{rowsUpTo}
 use Rattle.listing.specs.Listing.{linesOf, listingText}
 use Rattle.listing.specs.Counter.{counter, CounterListing}
 

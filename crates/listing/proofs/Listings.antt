@@ -1,11 +1,12 @@
 -- The three ways in which a listing goes.
-use Prim.Native.Nat.{ℕ, zero, suc, _≤_}
+use Prim.Native.Nat.{ℕ, _*_, _/_, _≤_, _<_}
+use native.Mathlib.Nat.{one-mul, mul-le-mul, le-div-iff-mul-le}
 use native.Mathlib.Omega.{arith}
-use mathlib.Core.Path.{_≡_, refl, ap, _∙_}
+use mathlib.Core.Path.{_≡_, refl, sym, ap, _∙_}
 use mathlib.Core.Bool.{true}
-use mathlib.Core.List.{List, [], _∷_}
+use mathlib.Core.List.{List, []}
 use mathlib.Core.Option.{none, some}
-use lib.ListN.{length, take, replicate}
+use lib.ListN.{length, replicate, length-replicate}
 use borrow.Author.Tests.{eqb-true, eq-eqb, ne-eqb}
 use Rattle.netlist.specs.declared.image.Sizes.{Sizes}
 use Rattle.netlist.specs.Image.{sizesOf, netsOf}
@@ -15,9 +16,11 @@ use Rattle.netlist.proofs.Checked.{check-none}
 use Rattle.tracker.specs.Calls.{PoweredUp, powerUpOf, starts}
 use Rattle.tracker.proofs.Calls.{powered-up}
 use Rattle.listing_text.specs.Lines.{endLine, refusedLine}
-use Rattle.listing.specs.declared.output.Progress.{Progress}
-use Rattle.listing.specs.Printed.{Printed, printed, blank, withLast}
-use Rattle.listing.specs.Rows.{Listed, rowsOf, withRows, withEnd, Lists}
+use Rattle.listing_rows.specs.declared.output.Progress.{Progress}
+use Rattle.listing_rows.specs.Printed.{Printed, printed, blank, withLast, Room}
+use Rattle.listing_rows.specs.Rows.{rowsOf, withRows, withEnd}
+use Rattle.listing_rows.specs.Taken.{Held, Holds}
+use Rattle.listing.specs.Reading.{Lists}
 use Rattle.listing.specs.Listing.{poweredUp, readsNone, listingOf, linesOf, listingText, Listing}
 use Rattle.listing.proofs.AsText.{last-there, lines-text}
 
@@ -25,11 +28,16 @@ use Rattle.listing.proofs.AsText.{last-there, lines-text}
 pub blank-is : (text : List ℕ) (p : Progress) → p .cycles ≡ 0 → p .used ≡ 0 → p .open ≡ true → printed text p ≡ blank text
 blank-is text p n u o = cc
 
--- the first bytes of a buffer of zeros
-zeros-part : (m n : ℕ) → m ≤ n → take {A = ℕ} m (replicate n 0) ≡ replicate m 0
-zeros-part zero n h = refl
-zeros-part (suc m) zero h = absurd (omega arith)
-zeros-part (suc m) (suc n) h = ap (λ (l : List ℕ). 0 ∷ l) (zeros-part m n (omega arith))
+-- the text has room then
+pub blank-room : (text : List ℕ) (p : Progress) → p .used ≡ 0 → p .written ≡ 0 → 8240 ≤ length text → Room text p
+blank-room text p u w h = record { written = omega (arith, u, w); used = omega (arith, u); longest = h }
+
+-- a row has room in a buffer of some whole rows
+pub row-room : (n i : ℕ) → 0 < i → i ≤ n → i ≤ n / i * i
+row-room n i pos h =
+    let one : 1 ≤ n / i = le-div-iff-mul-le pos .1 (omega (arith, one-mul i)) in
+    let m : 1 * i ≤ n / i * i = mul-le-mul one (omega arith) in
+    omega (arith, one-mul i)
 
 -- end, with no cycle
 pub end-blank : (text : List ℕ) (p : Progress) → p .cycles ≡ 0 → p .used ≡ 0 → p .open ≡ true → withLast (endLine (p .cycles)) (printed text p) ≡ withLast (endLine 0) (blank text)
@@ -66,23 +74,23 @@ module _ (s text : List ℕ) where
     unfolding listingText
     end-only e f = one-line (listing-end e) (rw (accepted, eq-eqb (sizesOf s .inputs) 0 e, listingText)) f
 
-    pub listing-rows : {z : Sizes} {n : ℕ} {after : Listed} (st : List ℕ) → z ≡ sizesOf s → (z .inputs ≡ 0 → ⊥) → length st ≡ z .registers → z .outputs ≤ n
-        → Lists s (z .inputs) (record { state = powerUpOf s st .state; outputs = take (z .outputs) (replicate n 0); printed = blank text }) after
+    pub listing-rows : {z : Sizes} {after : Held} (st : List ℕ) → z ≡ sizesOf s → (z .inputs ≡ 0 → ⊥) → length st ≡ z .registers
+        → Lists s (z .inputs) (record { state = powerUpOf s st .state; printed = blank text }) after
         → Listing s text (after .printed)
     unfolding listingOf listingText
-    listing-rows {z} {n} {after} st e i l o lists =
-        let up : powerUpOf s st .state ≡ poweredUp s text .state = ap (λ (p : PoweredUp). p .state) (powered-up s st (check-none s .0 accepted) (rw e at l)) in
-        let outs = zeros-part (z .outputs) n o in
+    listing-rows {z} {after} st e i l lists =
+        let up : powerUpOf s st .state ≡ starts (netsOf s) = ap (λ (p : PoweredUp). p .state) (powered-up s st (check-none s .0 accepted) (rw e at l)) in
+        let begin : Holds s (record { state = powerUpOf s st .state; printed = blank text }) (poweredUp s text) = record { state = sym up; printed = refl; outputs = length-replicate (sizesOf s .outputs) 0 } in
         let j : sizesOf s .inputs ≡ 0 → ⊥ = rw e at i in
         let rows = rowsOf (sizesOf s .inputs) (lists .input) in
-        let f : after ≡ withEnd (withRows s (sizesOf s .inputs) rows (poweredUp s text)) = rw (up, outs, e) at (lists .is) in
+        let f : after .printed ≡ withEnd (withRows s (sizesOf s .inputs) rows (poweredUp s text)) .printed = rw e at (sym (lists .ended .leads (poweredUp s text) begin .printed)) in
         let t : listingText s (lists .input) ≡ linesOf s (sizesOf s .inputs) 0 (starts (netsOf s)) (replicate (sizesOf s .outputs) 0) rows =
         rw (accepted, ne-eqb (sizesOf s .inputs) 0 j, listingText) in
         record {
           input = lists .input;
-          is = ap (λ (x : Listed). x .printed) f ∙ rw (accepted, ne-eqb (sizesOf s .inputs) 0 j, listingOf);
+          is = f ∙ rw (accepted, ne-eqb (sizesOf s .inputs) 0 j, listingOf);
           fits = λ h.
               rw t
-              (ap (λ (x : Listed). x .printed .text) f
-              ∙ lines-text s (sizesOf s .inputs) (omega (arith, j)) rows (starts (netsOf s)) (replicate (sizesOf s .outputs) 0) text 0 0 (let k = rw t at h in omega arith));
+              (ap (λ (x : Printed). x .text) f
+              ∙ lines-text s (sizesOf s .inputs) rows (starts (netsOf s)) (replicate (sizesOf s .outputs) 0) text 0 0 (let k = rw t at h in omega arith));
         }

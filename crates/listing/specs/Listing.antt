@@ -11,8 +11,8 @@ use Rattle.netlist.specs.Image.{sizesOf, netsOf}
 use Rattle.netlist.specs.Check.{checkRefusal, refusal}
 use Rattle.tracker.specs.Calls.{done, refused, starts, runOf}
 use Rattle.listing_text.specs.Lines.{cycleLine, endLine, refusedLine}
-use Rattle.listing.specs.Printed.{Printed, blank, withLast}
-use Rattle.listing.specs.Rows.{Listed, rowsOf, withRows, withEnd}
+use Rattle.listing_rows.specs.Printed.{Printed, blank, withLast}
+use Rattle.listing_rows.specs.Rows.{Listed, rowsOf, withRows, withEnd}
 
 -- where the rows begin: the state at power-up, a buffer for O output bytes, and nothing printed
 abbrev pub poweredUp : (s text : List ℕ) → Listed

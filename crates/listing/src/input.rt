@@ -1,9 +1,12 @@
 // Reading: the image, and the rows. Both may come in pieces.
+use libc::STDIN_FILENO;
+use listing_rows::Progress;
 ghost use mathlib.Core.Path.{_≡_};
 ghost use mathlib.Core.Bool.{true};
-ghost use Prim.Native.Nat.{_+_, _≤_, _<_};
+ghost use Prim.Native.Nat.{_+_, _%_, _≤_, _<_};
 ghost use lib.ListN.{length, take};
 ghost use Rattle.io.specs.Counts.{Counts};
+ghost use Rattle.listing.specs.Reading.{restOf};
 
 // The largest image has 8 + 7 × 8,192 bytes. One byte more is read, so that a longer file is not taken for an image.
 pub const MOST_IMAGE: usize = 57353;
@@ -14,9 +17,9 @@ pub struct Filled {
     pub failed: bool,
 }
 
-// One read behind the bytes that are there, which stay: how many more came.
+// One read behind the bytes that are there, which stay: how many more came. There is room for one at least, so none is the end of the input.
 fn read_more(fd: i32, buffer: &mut [u8], from: usize) -> Filled
-    requires { ⌜ from ≤ length (now buffer) ⌝ }
+    requires { ⌜ from < length (now buffer) ⌝ }
     ensures { λ r. ⌜ from + r .bytes ≤ length (now (buffer .exit)) ⌝ }
     ensures { λ r. ⌜ take from (now (buffer .exit)) ≡ take from (now (buffer .entry)) ⌝ }
 {
@@ -29,7 +32,7 @@ fn read_more(fd: i32, buffer: &mut [u8], from: usize) -> Filled
 }
 
 // Reads until the buffer is full, the input ends or a read fails, which it does only where bytes are missing.
-pub fn fill(fd: i32, buffer: &mut [u8]) -> Filled
+fn fill(fd: i32, buffer: &mut [u8]) -> Filled
     ensures { λ r. ⌜ Counts (r .bytes) (now (buffer .exit)) ⌝ }
     ensures { λ r. ⌜ (r .failed ≡ true → r .bytes < length (now (buffer .exit))) ⌝ }
 {
@@ -62,4 +65,28 @@ pub fn read_image(buffer: &mut [u8; MOST_IMAGE]) -> usize
     }
     libc::close(fd);
     got.bytes
+}
+
+// One read of rows, behind the bytes of an unfinished row. It may wait for them, so all that is printed has to be written out before.
+pub fn read_rows(rows: &mut [u8], have: usize, p: Progress) -> Filled
+    requires { ⌜ (have < length (now rows)) × (p .written ≡ p .used) ⌝ }
+    ensures { λ r. ⌜ have + r .bytes ≤ length (now (rows .exit)) ⌝ }
+    ensures { λ r. ⌜ take have (now (rows .exit)) ≡ take have (now (rows .entry)) ⌝ }
+{
+    read_more(STDIN_FILENO, rows, have)
+}
+
+// Moves the bytes of an unfinished row to the front, where the next read goes behind them: how many they are.
+pub fn keep_rest(rows: &mut [u8], inputs: usize, there: usize) -> usize
+    requires { ⌜ (0 < inputs) × (there ≤ length (now rows)) ⌝ }
+    ensures { λ r. ⌜ (r ≡ there % inputs) × (take r (now (rows .exit)) ≡ restOf inputs (take there (now (rows .entry)))) ⌝ }
+{
+    let rest = there % inputs;
+    let from = there - rest;
+    let mut i: usize = 0;
+    while i < rest {
+        rows[i] = rows[from + i];
+        i += 1;
+    }
+    rest
 }

@@ -1,7 +1,6 @@
 // The listing program: it reads net.bin, powers up, takes a row of I bytes a cycle from standard input, and prints a line for each cycle.
-mod cycles;
 mod input;
-mod output;
+mod turns;
 
 use input::MOST_IMAGE;
 use input::read_image;
@@ -10,5 +9,5 @@ fn main() {
     let mut space = [0u8; MOST_IMAGE];
     let n = read_image(&mut space);
     let mut text = [0u8; 65536];
-    cycles::list(&space[..n], &mut text);
+    turns::list(&space[..n], &mut text);
 }

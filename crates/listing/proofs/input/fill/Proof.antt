@@ -21,7 +21,7 @@ counts : (n : ℕ) (xs : List ℕ) → n ≤ length xs → Counts n xs
 counts n xs h = (h, sym (length-take-le n xs h))
 
 read-more-requires : tie.Need-read-more-requires Inv-loop μ-loop
-read-more-requires c κs = let inv = c .before .before .loop .inv in omega (arith, inv .0, inv .1)
+read-more-requires c κs = c .before .loop-test .taken
 
 -- the length stays, and what came is within it
 long : (c : tie.After-read-more Inv-loop μ-loop) → length (c .read-more .last .1 .0) ≡ length (c .before .before .before .before .before .args .buffer .now)
