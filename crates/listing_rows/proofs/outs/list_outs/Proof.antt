@@ -30,7 +30,7 @@ loop-holds : tie.Need-loop-holds Inv-loop μ-loop
 loop-holds c =
     let start = c .before .before .before in
     let count = ap (λ (z : Sizes). z .nets) (c .sizes-of .ensures) in
-    pass-begins _ (checked start) count (start .pre .1 ∙ checked start .outputs) (omega arith) (λ i h. absurd (omega arith))
+    pass-begins _ (checked start) count (start .pre .1 ∙ checked start .outputs)
 
 kind-of-requires : tie.Need-kind-of-requires Inv-loop μ-loop
 kind-of-requires c κs = omega (arith, c .loop-test .taken, c .before .loop .inv .exact)

@@ -31,7 +31,7 @@ module _ (c : tie.Else1 Inv-loop μ-loop) where
   checked = check-none _ .0 (start .pre .0 .accepted)
 
   listed-below : getD (start .args .outs .now) (c .before .loop .j) 0 < sizesOf (start .args .image .now) .nets
-  listed-below = listed-places (start .args .image .now) refl OUT (start .pre .0 .listed) .below _ (c .if1 .left)
+  listed-below = listed-places (start .args .image .now) refl OUT (start .pre .0 .listed) .within .below _ (c .if1 .left)
 
 cast-i : tie.Need-cast-i Inv-loop μ-loop
 cast-i c = omega (arith, c .shared-slice-known4 .given (c .before .before .loop .j))
