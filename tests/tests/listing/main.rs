@@ -9,3 +9,4 @@ mod long;
 mod planned;
 mod program;
 mod random;
+mod waiting;
