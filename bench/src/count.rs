@@ -53,11 +53,11 @@ pub fn valgrind_is_there() -> bool {
     there
 }
 
-/// The counts of this program with some arguments, and a number behind them, for
-/// each unit by which MANY is above FEW; a unit is `size` nets.
-pub fn counted(arguments: &[&str], few: usize, many: usize, size: usize) -> Option<Counts> {
+/// The counts for each net of what this program does with some arguments and a
+/// number of cycles or calls behind them, by a few and by many of these.
+pub fn counted(arguments: &[&str], few: usize, many: usize, nets: usize) -> Option<Counts> {
     let more = total(arguments, many)? - total(arguments, few)?;
-    Some(more / (size * (many - few)) as f64)
+    Some(more / (nets * (many - few)) as f64)
 }
 
 /// All that this program counts with some arguments and a number behind them.
