@@ -1,14 +1,14 @@
 -- What a call of a list gives, where it is refused and where it is accepted.
 use Prim.Native.Nat.{ℕ}
-use mathlib.Core.Path.{_≡_}
+use mathlib.Core.Path.{_≡_, refl, sym, ap}
 use mathlib.Core.List.{List, [], _∷_, map}
 use mathlib.Core.Option.{none, some}
 use Rattle.netlist.specs.Image.{sizesOf, netsOf}
 use Rattle.netlist.specs.declared.answer.Refusal.{Refusal}
 use Rattle.tracker.specs.Cycle.{cycleOf, cyclesOf, outputsOf, stateAfter, firstFlow}
 use Rattle.tracker.specs.Calls.{done, refused, asStep, stepRefusal, asRun, runRefusal}
-use Rattle.tracker.proofs.Calls.{step-accepted, step-refused, run-accepted, run-refused}
-use Rattle.claims.specs.History.{Call, step, run, lent, refusalOf, CallAnswer, stepped, ran, callResult, accepted, TurnedBack}
+use Rattle.tracker.proofs.Calls.{either-way, step-accepted, step-refused, run-accepted, run-refused}
+use Rattle.claims.specs.History.{Call, step, run, lent, refusalOf, CallAnswer, stepped, ran, callResult, history, accepted, cyclesIn, TurnedBack, Made, AllMade, Histories}
 use Rattle.claims.proofs.Steps.{run-is-steps}
 
 unfoldable pub turned : Call → Refusal → CallAnswer
@@ -40,6 +40,23 @@ pub made-run :
     callResult s st (run k rows outputs) ≡ record { answer = ran (done (firstFlow 0 cs)); buffer = outputsOf cs; state = stateAfter st cs; cycles = map asStep cs }
 unfolding callResult asRun
 made-run s st k rows outputs h = rw (h, run-accepted s st k rows outputs h, run-is-steps s st k rows outputs h .cycles)
+
+-- so every call gives what the step or run gives, and so does every call of a list, from the state that the one before it left
+pub made : (s st : List ℕ) (c : Call) → Made s st c (callResult s st c)
+unfolding callResult asStep asRun
+made s st (step row nets) =
+    either-way (stepRefusal s st row nets)
+    (λ h. rw (callResult, h) (Made.step-done refl (ap (λ o. o .answer) (step-accepted s st row nets h))))
+    (λ r h. let e = step-refused s st row nets r h in rw (callResult, h, e) (Made.step-refused (sym e) refl))
+made s st (run k rows outputs) =
+    either-way (runRefusal s st k rows outputs)
+    (λ h. rw (callResult, h) (Made.run-done refl (ap (λ o. o .answer) (run-accepted s st k rows outputs h)) (run-is-steps s st k rows outputs h)))
+    (λ r h. let e = run-refused s st k rows outputs r h in rw (callResult, h, e) (Made.run-refused (sym e) refl))
+
+pub histories : Histories
+unfolding history cyclesIn
+histories s st [] = AllMade.nil
+histories s st (c ∷ cs) = AllMade.cons (made s st c) (histories s (callResult s st c .state) cs)
 
 -- the calls that are not refused
 pub accepted-none : (s st : List ℕ) (c : Call) (cs : List Call) → refusalOf s st c ≡ none → accepted s st (c ∷ cs) ≡ c ∷ accepted s (callResult s st c .state) cs

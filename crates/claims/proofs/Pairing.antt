@@ -15,10 +15,9 @@ use Rattle.tracker.proofs.Calls.{IsState, step-none, run-none, starts-state, po
 use Rattle.doubling.specs.Doubled.{doubledSize, doubledImage, split}
 use Rattle.doubling.proofs.Checks.{doubled-sizes, double-none, double-accepted}
 use Rattle.doubling.proofs.Runs.{Doubles, state-doubles, ready-again, cycle-doubles, cycles-double, power-up-again}
-use Rattle.claims.specs.History.{Call, refusalOf, callResult, history, accepted, cyclesIn, Finished, AllFinished, InSteps, AllInSteps}
+use Rattle.claims.specs.History.{Call, refusalOf, callResult, history, accepted, cyclesIn, Finished, AllFinished}
 use Rattle.claims.specs.Pairing.{Again, step-again, run-again, shown, Shows, Paired, Demand2}
-use Rattle.claims.proofs.Steps.{run-is-steps}
-use Rattle.claims.proofs.History.{made-refused, made-step, made-run, accepted-none, accepted-some}
+use Rattle.claims.proofs.History.{made-refused, made-step, made-run, histories, accepted-none, accepted-some}
 
 doubles-show : (s : List ℕ) (c c′ : Cycle) → Doubles s c c′ → Shows s (doubledImage s) (asStep c) (asStep c′)
 unfolding shown asStep
@@ -31,7 +30,6 @@ module _ (s : List ℕ) (c : Checked s) (few : doubledSize (netsOf s) ≤ 8192) 
   -- one accepted call, and the same made again
   record CallAgain (st : List ℕ) (a a′ : Call) : Type 0 where
     finished : Finished (callResult d (split st) a′ .answer)
-    in-steps : InSteps d (split st) a′
     shows : Forall₂ (Shows s d) (callResult s st a .cycles) (callResult d (split st) a′ .cycles)
     same : callResult d (split st) a′ .state ≡ split (callResult s st a .state)
     state : IsState s (callResult s st a .state)
@@ -47,7 +45,6 @@ module _ (s : List ℕ) (c : Checked s) (few : doubledSize (netsOf s) ≤ 8192) 
       let q = cycle-doubles s c few r in
       record {
         finished = rw e′ Finished.a-step;
-        in-steps = InSteps.a-step;
         shows = rw (e, e′) (Forall₂·cons (doubles-show s _ _ q) Forall₂·nil);
         same = rw (e, e′) (q .state);
         state = rw e (cycle-state r);
@@ -62,7 +59,6 @@ module _ (s : List ℕ) (c : Checked s) (few : doubledSize (netsOf s) ≤ 8192) 
       let q = cycles-double s c few k (r .0) in
       record {
         finished = rw e′ Finished.a-run;
-        in-steps = InSteps.a-run (run-is-steps d (split st) k (split rows) b′ g);
         shows = rw (e, e′) (pairs-map asStep (doubles-show s) q);
         same = rw (e, e′) (state-doubles st q);
         state = rw e (run-state k (r .0));
@@ -70,7 +66,6 @@ module _ (s : List ℕ) (c : Checked s) (few : doubledSize (netsOf s) ≤ 8192) 
 
   record CallsAgain (st : List ℕ) (cs cs′ : List Call) : Type 0 where
     finished : AllFinished (history d (split st) cs′)
-    in-steps : AllInSteps d (split st) cs′
     cycles : Forall₂ (Shows s d) (cyclesIn (history s st cs)) (cyclesIn (history d (split st) cs′))
 
   abbrev From : List Call → Type 0
@@ -85,7 +80,6 @@ module _ (s : List ℕ) (c : Checked s) (few : doubledSize (netsOf s) ≤ 8192) 
       let rest = ih (callResult s st a .state) cs′ (o .state) (rw e at ps) in
       record {
         finished = AllFinished.cons (o .finished) (rw (← (o .same)) at (rest .finished));
-        in-steps = AllInSteps.cons (o .in-steps) (rw (← (o .same)) at (rest .in-steps));
         cycles = pairs-append (o .shows) (rw (← (o .same)) at (rest .cycles));
       }
 
@@ -95,11 +89,11 @@ module _ (s : List ℕ) (c : Checked s) (few : doubledSize (netsOf s) ≤ 8192) 
   first-call st a cs cs′ (some r) h t ih p =
       let e = made-refused s st a r h in
       let rest = ih st cs′ t (rw (accepted-some s st a cs r h) at p) in
-      record { finished = rest .finished; in-steps = rest .in-steps; cycles = unfold history cyclesIn in rw e (rest .cycles) }
+      record { finished = rest .finished; cycles = unfold history cyclesIn in rw e (rest .cycles) }
 
   no-call : (st : List ℕ) {cs′ : List Call} → Forall₂ (Again d) [] cs′ → CallsAgain st [] cs′
   unfolding history cyclesIn
-  no-call st Forall₂·nil = record { finished = AllFinished.nil; in-steps = AllInSteps.nil; cycles = Forall₂·nil }
+  no-call st Forall₂·nil = record { finished = AllFinished.nil; cycles = Forall₂·nil }
 
   -- from any state of the source, and the same state split
   calls-again : (cs : List Call) → From cs
@@ -113,7 +107,13 @@ module _ (s : List ℕ) (c : Checked s) (few : doubledSize (netsOf s) ≤ 8192) 
       let e = powered-up s a c la in
       let e′ = power-up-again s c few b lb in
       let r = calls-again cs (starts (netsOf s)) cs′ (starts-state c) (rw e at p) in
-      record { powered-up = (rw e, rw e′); finished = rw e′ (r .finished); in-steps = rw e′ (r .in-steps); cycles = rw (e, e′) (r .cycles) }
+      record {
+        powered-up = (rw e, rw e′);
+        made = histories s _ cs;
+        made-again = histories d _ cs′;
+        finished = rw e′ (r .finished);
+        cycles = rw (e, e′) (r .cycles);
+      }
 
 pub demand2 : Demand2
 demand2 s h few buf l =

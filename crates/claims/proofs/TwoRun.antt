@@ -18,11 +18,10 @@ use Rattle.tracker.proofs.Cycles.{Related, outputs-length, agree-outputs, agree
 use Rattle.tracker.proofs.Calls.{step-none, run-none, starts-state, powered-up}
 use Rattle.doubling.specs.Doubled.{split}
 use Rattle.doubling.proofs.Simulation.{two-more}
-use Rattle.claims.specs.History.{Call, refusalOf, stepped, ran, callResult, history, cyclesIn, Finished, InSteps}
+use Rattle.claims.specs.History.{Call, refusalOf, stepped, ran, callResult, history, cyclesIn, Finished}
 use Rattle.claims.specs.Pairing.{shown, Shows}
 use Rattle.claims.specs.TwoRun.{Matched, steps, runs, SameCycle, SameCall, turned-back, finished, SameCalls, SameShown, Demand3}
-use Rattle.claims.proofs.Steps.{run-is-steps}
-use Rattle.claims.proofs.History.{turns-back, made-refused, made-step, made-run}
+use Rattle.claims.proofs.History.{turns-back, made-refused, made-step, made-run, made}
 use Rattle.claims.proofs.Pairing.{demand2}
 
 agree-refl : (xs : List ℕ) → Agree xs xs
@@ -68,7 +67,7 @@ as-steps c c′ h = record { verdict = ap done (h .verdict); nets = h .bytes; st
 
 -- CALLS. One place of the two lists
 record SamePlace (s st st′ : List ℕ) (c d : Call) : Type 0 where
-  call : SameCall s st st′ c d (callResult s st c) (callResult s st′ d)
+  call : SameCall (callResult s st c) (callResult s st′ d)
   state : Agree (callResult s st c .state) (callResult s st′ d .state)
   cycles : Forall₂ SameCycle (callResult s st c .cycles) (callResult s st′ d .cycles)
 
@@ -80,7 +79,7 @@ same-place s {st} {st′} {c} {d} q m (some r) h k =
     let e = made-refused s st c r h in
     let e′ = made-refused s st′ d r k in
     record {
-      call = rw (e, e′) (turned-back r (turns-back c r) (turns-back d r) refl refl refl refl refl refl);
+      call = rw (e, e′) (turned-back r (turns-back c r) (turns-back d r));
       state = rw (e, e′) q;
       cycles = rw (e, e′) Forall₂·nil;
     }
@@ -90,7 +89,7 @@ same-place s {st} {st′} q (steps {r} {r′} {b} {b′} p l) none h k =
     let a = agree-cycle (step-none s st r b .0 h .0 .image .nets) p q in
     let t = pairs-map asStep as-steps (Forall₂·cons a Forall₂·nil) in
     record {
-      call = rw (e, e′) (finished Finished.a-step (ap (λ v. stepped (done v)) (a .verdict)) (a .bytes) t InSteps.a-step InSteps.a-step);
+      call = rw (e, e′) (finished Finished.a-step (ap (λ v. stepped (done v)) (a .verdict)) (a .bytes) t);
       state = rw (e, e′) (a .state);
       cycles = rw (e, e′) t;
     }
@@ -101,9 +100,7 @@ same-place s {st} {st′} q (runs {k = n} {r} {r′} {b} {b′} p l) none h k =
     let t = pairs-map asStep as-steps a in
     record {
       call =
-          rw (e, e′)
-          (finished Finished.a-run (ap (λ f. ran (done f)) (first-equal 0 a)) (outputs-of-related a) t
-          (InSteps.a-run (run-is-steps s st n r b h)) (InSteps.a-run (run-is-steps s st′ n r′ b′ k)));
+          rw (e, e′) (finished Finished.a-run (ap (λ f. ran (done f)) (first-equal 0 a)) (outputs-of-related a) t);
       state = rw (e, e′) (state-after-related q a);
       cycles = rw (e, e′) t;
     }
@@ -114,7 +111,7 @@ place s {st} {c} q m = same-place s q m (refusalOf s st c) refl (sym (same-refus
 -- from any two states that agree
 same-calls : (s : List ℕ) {st st′ : List ℕ} {cs ds : List Call} → Agree st st′ → Forall₂ Matched cs ds → SameCalls s st st′ cs ds
 same-calls s q Forall₂·nil = SameCalls.nil
-same-calls s q (Forall₂·cons m ms) = let p = place s q m in SameCalls.cons (p .call) (p .state) (same-calls s (p .state) ms)
+same-calls s q (Forall₂·cons m ms) = let p = place s q m in SameCalls.cons (made s _ _) (made s _ _) (p .call) (p .state) (same-calls s (p .state) ms)
 
 same-cycles :
     (s : List ℕ) {st st′ : List ℕ} {cs ds : List Call} → Agree st st′ → Forall₂ Matched cs ds
@@ -177,5 +174,5 @@ demand3 s h cs ds m =
           let x = d .paired a a′ l l′ cs cs′ p in
           let y = d .paired b b′ k k′ ds ds′ q in
           let shown = pairs-square (same-shown c _) (x .cycles) (y .cycles) (same-cycles s (powered-agree c a b l k) m) in
-          (d .written, x .powered-up .1, y .powered-up .1, x .finished, y .finished, x .in-steps, y .in-steps, shown);
+          (d .written, x .powered-up .1, y .powered-up .1, x .finished, y .finished, x .made-again, y .made-again, shown);
     }

@@ -1,10 +1,11 @@
 -- Lists of calls on one image s, each call taking the state st that the last one left.
 use Prim.Native.Nat.{ℕ}
+use mathlib.Core.Path.{_≡_}
 use mathlib.Core.List.{List, [], _∷_, _++_}
 use mathlib.Core.Option.{Option, none, some}
 use Rattle.netlist.specs.declared.answer.Refusal.{Refusal}
 use Rattle.tracker.specs.Cycle.{Verdict, FirstFlow}
-use Rattle.tracker.specs.Calls.{Answer, done, refused, Stepped, stepOf, stepRefusal, runOf, runRefusal}
+use Rattle.tracker.specs.Calls.{Answer, done, refused, Stepped, stepOf, stepRefusal, Ran, runOf, runRefusal}
 use Rattle.claims.specs.Steps.{stepsOf, AsSteps}
 
 -- a call, with its row bytes and the buffer that it is lent
@@ -84,14 +85,29 @@ pub data AllFinished : List CallResult → Type 0 where
   nil : AllFinished []
   cons : {m : CallResult} {ms : List CallResult} → Finished (m .answer) → AllFinished ms → AllFinished (m ∷ ms)
 
--- the cycles of a call are those of steps: a step is its own cycle, and a run gives what its steps give (AsSteps)
-pub data InSteps (s st : List ℕ) : Call → Type 0 where
-  a-step : {row nets : List ℕ} → InSteps s st (step row nets)
-  a-run : {k : ℕ} {rows outputs : List ℕ} → AsSteps s st k rows outputs → InSteps s st (run k rows outputs)
+-- m is what a call on s gives from the state st. Refused: that refusal, the buffer and the state as they were, and no cycle. Done: the answer, the buffer and the
+-- state of the step or run; and the cycles of the call, which are those of steps: a step is its own cycle, and a run gives what its steps give (AsSteps)
+pub data Made (s st : List ℕ) : Call → CallResult → Type 0 where
+  step-refused :
+      {row nets : List ℕ} {o : Stepped} {r : Refusal} → o ≡ stepOf s st row nets → o .answer ≡ refused r
+      → Made s st (step row nets) (record { answer = stepped (o .answer); buffer = nets; state = st; cycles = [] })
+  step-done :
+      {row nets : List ℕ} {o : Stepped} {v : Verdict} → o ≡ stepOf s st row nets → o .answer ≡ done v
+      → Made s st (step row nets) (record { answer = stepped (o .answer); buffer = o .nets; state = o .state; cycles = o ∷ [] })
+  run-refused :
+      {k : ℕ} {rows outputs : List ℕ} {o : Ran} {r : Refusal} → o ≡ runOf s st k rows outputs → o .answer ≡ refused r
+      → Made s st (run k rows outputs) (record { answer = ran (o .answer); buffer = outputs; state = st; cycles = [] })
+  run-done :
+      {k : ℕ} {rows outputs : List ℕ} {o : Ran} {f : FirstFlow} → o ≡ runOf s st k rows outputs → o .answer ≡ done f → AsSteps s st k rows outputs
+      → Made s st (run k rows outputs) (record { answer = ran (o .answer); buffer = o .outputs; state = o .state; cycles = stepsOf s st k rows })
 
--- the same of every call of a list
-pub data AllInSteps (s : List ℕ) : List ℕ → List Call → Type 0 where
-  nil : {st : List ℕ} → AllInSteps s st []
+-- ms are what the calls of a list give from the state st, each from the state that the one before it left; cycles are all their cycles
+pub data AllMade (s : List ℕ) : (st : List ℕ) → List Call → (ms : List CallResult) → (cycles : List Stepped) → Type 0 where
+  nil : {st : List ℕ} → AllMade s st [] [] []
   cons :
-      {st : List ℕ} {c : Call} {cs : List Call}
-      → InSteps s st c → AllInSteps s (callResult s st c .state) cs → AllInSteps s st (c ∷ cs)
+      {st : List ℕ} {c : Call} {cs : List Call} {m : CallResult} {ms : List CallResult} {rest : List Stepped}
+      → Made s st c m → AllMade s (m .state) cs ms rest → AllMade s st (c ∷ cs) (m ∷ ms) (m .cycles ++ rest)
+
+-- what `history` and `cyclesIn` give is that, of every list of calls; proved as `histories`
+abbrev pub Histories : Type 0
+Histories = (s st : List ℕ) (cs : List Call) → AllMade s st cs (history s st cs) (cyclesIn (history s st cs))

@@ -9,7 +9,7 @@ use Rattle.netlist.specs.Check.{checkRefusal}
 use Rattle.tracker.specs.Cycle.{outputsFrom}
 use Rattle.tracker.specs.Calls.{Stepped, powerUpOf}
 use Rattle.doubling.specs.Doubled.{doubledSize, doubleOf, split}
-use Rattle.claims.specs.History.{Call, step, run, history, accepted, cyclesIn, AllFinished, AllInSteps}
+use Rattle.claims.specs.History.{Call, step, run, history, accepted, cyclesIn, AllFinished, AllMade}
 
 -- a call made again on the doubled image d: each row byte as two, and any buffer of the right length
 pub data Again (d : List ℕ) : Call → Call → Type 0 where
@@ -24,11 +24,12 @@ shown s o = map (λ x. x % 2) (outputsFrom 0 (netsOf s) (o .nets))
 pub record Shows (s d : List ℕ) (o o′ : Stepped) : Type 0 where
   pub pairs : shown d o′ ≡ split (outputsFrom 0 (netsOf s) (o .nets))
 
--- the calls cs on s, and cs′ on d, each from power-up, where the states held the bytes a and b before
+-- the calls cs on s, and cs′ on d, each from power-up, where the states held the bytes a and b before: what they give, ms and ns, with all cycles of each list
 pub record Paired (s d a b : List ℕ) (cs cs′ : List Call) : Type 0 where
   pub powered-up : (powerUpOf s a .refusal ≡ none) × (powerUpOf d b .refusal ≡ none)
+  pub made : let ms = history s (powerUpOf s a .state) cs in AllMade s (powerUpOf s a .state) cs ms (cyclesIn ms)
+  pub made-again : let ns = history d (powerUpOf d b .state) cs′ in AllMade d (powerUpOf d b .state) cs′ ns (cyclesIn ns)
   pub finished : AllFinished (history d (powerUpOf d b .state) cs′)
-  pub in-steps : AllInSteps d (powerUpOf d b .state) cs′
   pub cycles : Forall₂ (Shows s d) (cyclesIn (history s (powerUpOf s a .state) cs)) (cyclesIn (history d (powerUpOf d b .state) cs′))
 
 -- what doubling writes into buf, beside its source

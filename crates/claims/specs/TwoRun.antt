@@ -10,7 +10,7 @@ use Rattle.netlist.specs.declared.answer.Refusal.{Refusal}
 use Rattle.netlist.specs.Check.{checkRefusal}
 use Rattle.tracker.specs.Calls.{Stepped, powerUpOf}
 use Rattle.doubling.specs.Doubled.{doubledSize, doubleOf}
-use Rattle.claims.specs.History.{Call, step, run, lent, CallResult, callResult, history, accepted, cyclesIn, TurnedBack, Finished, AllFinished, InSteps, AllInSteps}
+use Rattle.claims.specs.History.{Call, step, run, CallResult, history, accepted, cyclesIn, TurnedBack, Finished, AllFinished, Made, AllMade}
 use Rattle.claims.specs.Pairing.{Again, shown}
 
 -- what may stand at one place of the two lists
@@ -24,26 +24,20 @@ pub record SameCycle (o o′ : Stepped) : Type 0 where
   pub nets : Agree (o .nets) (o′ .nets)
   pub state : Agree (o .state) (o′ .state)
 
--- at one place, from the states st and st′: the same refusal, which leaves everything as it was and has no cycle; or the same answer
--- with bytes that agree, in each cycle too, where the cycles are those of steps
-pub data SameCall (s st st′ : List ℕ) (c d : Call) (m n : CallResult) : Type 0 where
-  turned-back :
-      (r : Refusal) → TurnedBack r (m .answer) → TurnedBack r (n .answer)
-      → m .buffer ≡ lent c → n .buffer ≡ lent d → m .state ≡ st → n .state ≡ st′ → m .cycles ≡ [] → n .cycles ≡ []
-      → SameCall s st st′ c d m n
+-- at one place: the same refusal; or the same answer with bytes that agree, in each cycle too
+pub data SameCall (m n : CallResult) : Type 0 where
+  turned-back : (r : Refusal) → TurnedBack r (m .answer) → TurnedBack r (n .answer) → SameCall m n
   finished :
       Finished (m .answer) → m .answer ≡ n .answer
-      → Agree (m .buffer) (n .buffer) → Forall₂ SameCycle (m .cycles) (n .cycles) → InSteps s st c → InSteps s st′ d
-      → SameCall s st st′ c d m n
+      → Agree (m .buffer) (n .buffer) → Forall₂ SameCycle (m .cycles) (n .cycles) → SameCall m n
 
--- at every place, each list with its own state
+-- at every place, each list with its own state: what the two calls give, m and n, and then the states agree again
 pub data SameCalls (s : List ℕ) : List ℕ → List ℕ → List Call → List Call → Type 0 where
   nil : {st st′ : List ℕ} → SameCalls s st st′ [] []
   cons :
-      {st st′ : List ℕ} {c d : Call} {cs ds : List Call}
-      → SameCall s st st′ c d (callResult s st c) (callResult s st′ d)
-      → Agree (callResult s st c .state) (callResult s st′ d .state)
-      → SameCalls s (callResult s st c .state) (callResult s st′ d .state) cs ds
+      {st st′ : List ℕ} {c d : Call} {cs ds : List Call} {m n : CallResult}
+      → Made s st c m → Made s st′ d n → SameCall m n → Agree (m .state) (n .state)
+      → SameCalls s (m .state) (n .state) cs ds
       → SameCalls s st st′ (c ∷ cs) (d ∷ ds)
 
 -- in the same cycle of two runs of the doubled image d of s: d shows two values for each output of s, with equal marks, and equal values wherever the mark is 0
@@ -76,7 +70,7 @@ pub record TwoRun (s : List ℕ) (cs ds : List Call) : Type 0 where
       let ns = history d (powerUpOf d b′ .state) ds′ in
       (doubleOf s buf .refusal ≡ none) × (powerUpOf d a′ .refusal ≡ none) × (powerUpOf d b′ .refusal ≡ none)
       × AllFinished ms × AllFinished ns
-      × AllInSteps d (powerUpOf d a′ .state) cs′ × AllInSteps d (powerUpOf d b′ .state) ds′
+      × AllMade d (powerUpOf d a′ .state) cs′ ms (cyclesIn ms) × AllMade d (powerUpOf d b′ .state) ds′ ns (cyclesIn ns)
       × Forall₂ (SameShown s d) (cyclesIn ms) (cyclesIn ns)
 
 -- proved as `demand3`
