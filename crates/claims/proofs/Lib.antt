@@ -2,10 +2,10 @@
 -- In `NetBytes`: net-bytes, ruled-bytes. In `Verdicts`: verdicts, first-flows. In `Steps`: run-is-steps.
 -- In `DoubledImage`: doubled-checks, doubling-writes, doubled-reads, doubled-placed, doubled-unseen. In `Pairing`: demand2. In `TwoRun`: demand3.
 pub mod Examples
-pub mod Gates
 pub mod Accepted
 pub mod Unchanged
 pub mod NetBytes
+pub mod PowerUp
 pub mod Verdicts
 pub mod Steps
 pub mod History

@@ -26,7 +26,7 @@ module _ {s : List ℕ} (i : ℕ) (h : i < sizesOf s .nets) where
   counted : {k x : ℕ} {bytes : List ℕ} → netOf s i .kind ≡ k → length bytes ≡ count k (netsOf s) → getD bytes (placeOf k s i) 0 ≡ x → Counted k s i bytes x
   counted {k} e l b = record { below = omega (arith, place-below k (netsOf s) i _ (omega (arith, length-nets s)) e); byte = b }
 
-  selected : {k : ℕ} {list : ℕ → List Net → List ℕ} {byte : ℕ → Net → ℕ} → Selection k list byte → netOf s i .kind ≡ k
+  pub selected : {k : ℕ} {list : ℕ → List Net → List ℕ} {byte : ℕ → Net → ℕ} → Selection k list byte → netOf s i .kind ≡ k
       → Counted k s i (list 0 (netsOf s)) (byte i (netOf s i))
   selected z e = counted e (selection-length z 0 (netsOf s)) (selection-place z (netsOf s) i _ (omega (arith, length-nets s)) e)
 

@@ -1,9 +1,9 @@
 -- What is claimed of gates, cycles, calls and the doubled netlist together.
 pub mod Examples
-pub mod Gates
 pub mod Accepted
 pub mod Unchanged
 pub mod NetBytes
+pub mod PowerUp
 pub mod Verdicts
 pub mod Steps
 pub mod History

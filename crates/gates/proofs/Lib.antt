@@ -2,4 +2,5 @@
 pub mod EachCode
 pub mod Laws
 pub mod Composed
+pub mod Meaning
 pub mod Entries

@@ -3,3 +3,4 @@ pub mod Kinds
 pub mod Rules
 pub mod Table
 pub mod Relations
+pub mod Meaning

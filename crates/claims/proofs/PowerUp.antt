@@ -1,0 +1,34 @@
+-- Power-up, register by register.
+use Prim.Native.Nat.{ℕ, _<_}
+use native.Mathlib.Omega.{arith}
+use mathlib.Core.Path.{_≡_}
+use mathlib.Core.List.{List}
+use lib.ListN.{length}
+use borrow.Author.Tests.{eq-eqb, ne-eqb}
+use Rattle.gates.specs.Kinds.{REG}
+use Rattle.netlist.specs.Image.{sizesOf, netsOf}
+use Rattle.netlist.proofs.Checked.{Checked, check-none}
+use Rattle.tracker.specs.Calls.{start, starts, powerUpOf}
+use Rattle.tracker.proofs.Calls.{starts-state, powered-up}
+use Rattle.tracker.proofs.Selections.{registers-selected}
+use Rattle.claims.specs.NetBytes.{netOf, Counted}
+use Rattle.claims.specs.PowerUp.{PowerUpStarts}
+use Rattle.claims.proofs.NetBytes.{selected}
+
+register : {s : List ℕ} (st : List ℕ) → Checked s → length st ≡ sizesOf s .registers
+    → (i : ℕ) → i < sizesOf s .nets → netOf s i .kind ≡ REG → Counted REG s i (powerUpOf s st .state) (start (netOf s i .b))
+unfolding starts
+register {s} st c l i h e = rw (powered-up s st c l) (selected i h (registers-selected (λ x. start (x .b))) e)
+
+pub power-up-starts : PowerUpStarts
+unfolding start
+power-up-starts s st h l =
+    let c = check-none s .0 h in
+    let e = powered-up s st c l in
+    record {
+      done = rw e;
+      size = rw e (starts-state c .size);
+      start-0 = λ i m k b. rw b at (register st c l i m k);
+      start-1 = λ i m k b. rw b at (register st c l i m k);
+      none-given = λ i m k b. rw b at (register st c l i m k);
+    }
