@@ -12,3 +12,5 @@ pub mod History
 pub mod DoubledImage
 pub mod Pairing
 pub mod TwoRun
+pub mod OneRun
+pub mod ClearRun

@@ -11,10 +11,10 @@ use Rattle.doubling.proofs.Checks.{double-accepted, double-refused}
 use Rattle.claims.specs.Unchanged.{Unchanged}
 
 -- what is done is not refused
-not-refused : {A : Type 0} {a : A} {r : Refusal} → done a ≡ refused r → ⊥
+pub not-refused : {A : Type 0} {a : A} {r : Refusal} → done a ≡ refused r → ⊥
 not-refused h = let z : _≡_ {A = ℕ} 0 1 = cc in omega arith
 
-not-some : {r : Refusal} → none ≡ some r → ⊥
+pub not-some : {r : Refusal} → none ≡ some r → ⊥
 not-some h = let z : _≡_ {A = ℕ} 0 1 = cc in omega arith
 
 pub unchanged : Unchanged

@@ -10,3 +10,4 @@ pub mod History
 pub mod DoubledImage
 pub mod Pairing
 pub mod TwoRun
+pub mod OneRun
