@@ -1,4 +1,4 @@
--- Every answer as one number. Of the answers that calls give, the refusals are exactly those with a number of 2^32 or more (Readings.antt).
+-- Every answer as one number. Of the answers that calls give, the refusals are exactly those with a number of 2^32 or more; Readings.antt says how each is read back.
 use Prim.Native.Nat.{ℕ, _+_, _*_, _^_}
 use mathlib.Core.Option.{Option, none, some}
 use Rattle.netlist.specs.declared.answer.Refusal.{Refusal}
@@ -14,10 +14,10 @@ abbrev pub outcomeCode : Option Refusal → ℕ
 outcomeCode none = 0
 outcomeCode (some r) = refusalCode r
 
--- a verdict: 0 for clear, and net + 1 for a flow
+-- a verdict: 65,535 for clear, which is no net's number, and its net for a flow
 abbrev pub verdictCode : Verdict → ℕ
-verdictCode clear = 0
-verdictCode (flow net) = net + 1
+verdictCode clear = 65535
+verdictCode (flow net) = net
 
 -- the first flow of a run: its cycle × 65,536 + the number of its verdict
 abbrev pub firstFlowCode : FirstFlow → ℕ

@@ -1,47 +1,52 @@
--- The number that a call answers with, taken apart again: its parts do not run into each other, and give back the refusal's number and place, or the verdict
--- and the cycle.
-use Prim.Native.Nat.{ℕ, _/_, _%_, _^_, _≤_, _<_}
+-- How the number that a call answers with is read, by the divisions and rests of include/tracker.h; and that what is read is the answer itself.
+use Prim.Native.Nat.{ℕ, _/_, _%_, _^_, _≤_}
 use mathlib.Core.Path.{_≡_}
 use mathlib.Core.List.{List}
 use mathlib.Core.Option.{Option, none, some}
+use mathlib.Core.Bool.{cond}
+use lib.Dec.{eqb, ltb}
 use Rattle.netlist.specs.declared.answer.Refusal.{Refusal}
-use Rattle.netlist.specs.Check.{checkRefusal}
-use Rattle.tracker.specs.Cycle.{Verdict, FirstFlow}
+use Rattle.netlist.specs.Check.{refusal, checkRefusal}
+use Rattle.tracker.specs.Cycle.{Verdict, clear, flow, FirstFlow}
 use Rattle.tracker.specs.Calls.{Answer, done, refused, powerUpOf, stepOf, runOf}
 use Rattle.doubling.specs.Doubled.{doubleOf}
-use Rattle.exports.specs.Codes.{refusalCode, verdictCode, firstFlowCode}
+use Rattle.exports.specs.Codes.{outcomeCode, verdictCode, firstFlowCode, answerCode}
 
--- a refusal: its number, which is not 0, stands above its place
-pub record RefusalRead (r : Refusal) : Type 0 where
-  pub some-number : 1 ≤ r .number
-  pub number : refusalCode r / 2 ^ 32 ≡ r .number
-  pub place : refusalCode r % 2 ^ 32 ≡ r .place
+-- a refusal: its number stands above its place
+abbrev pub refusalRead : ℕ → Refusal
+refusalRead n = refusal (n / 2 ^ 32) (n % 2 ^ 32)
 
--- the answer of check, power-up and doubling
-pub data OutcomeRead : Option Refusal → Type 0 where
-  is-done : OutcomeRead none
-  is-refused : {r : Refusal} → RefusalRead r → OutcomeRead (some r)
+-- check, power-up and doubling: a number below 2^32 says that the call is done
+abbrev pub outcomeRead : ℕ → Option Refusal
+outcomeRead n = cond (ltb n (2 ^ 32)) none (some (refusalRead n))
 
--- the answer of a step: a verdict's number is below 65,536. By verdictCode it is 0 for clear, and for a flow its net + 1
-pub data StepRead : Answer Verdict → Type 0 where
-  step-done : {v : Verdict} → verdictCode v < 65536 → StepRead (done v)
-  step-refused : {r : Refusal} → RefusalRead r → StepRead (refused r)
+-- a verdict: 65,535 is clear, and every other number a flow at that net
+abbrev pub verdictRead : ℕ → Verdict
+verdictRead n = cond (eqb n 65535) clear (flow n)
 
--- the first flow of a run: its cycle stands above its verdict, and both below 2^32
-pub record FirstFlowRead (f : FirstFlow) : Type 0 where
-  pub small : firstFlowCode f < 2 ^ 32
-  pub cycle : firstFlowCode f / 65536 ≡ f .cycle
-  pub verdict : firstFlowCode f % 65536 ≡ verdictCode (f .verdict)
+-- a step
+abbrev pub stepRead : ℕ → Answer Verdict
+stepRead n = cond (ltb n (2 ^ 32)) (done (verdictRead n)) (refused (refusalRead n))
 
--- the answer of a run
-pub data RunRead : Answer FirstFlow → Type 0 where
-  run-done : {f : FirstFlow} → FirstFlowRead f → RunRead (done f)
-  run-refused : {r : Refusal} → RefusalRead r → RunRead (refused r)
+-- the first flow of a run: its cycle stands above its verdict
+abbrev pub firstFlowRead : ℕ → FirstFlow
+firstFlowRead n = record { cycle = n / 65536; verdict = verdictRead (n % 65536) }
 
--- for all calls, on any bytes; proved as `reads`
+-- a run
+abbrev pub runRead : ℕ → Answer FirstFlow
+runRead n = cond (ltb n (2 ^ 32)) (done (firstFlowRead n)) (refused (refusalRead n))
+
+-- for all calls, on any bytes: what is read from the number is the answer; proved as `reads`
 pub record CodesRead : Type 0 where
-  pub check : (s : List ℕ) → OutcomeRead (checkRefusal s)
-  pub power-up : (s st : List ℕ) → OutcomeRead (powerUpOf s st .refusal)
-  pub step : (s st row nets : List ℕ) → StepRead (stepOf s st row nets .answer)
-  pub run : (s st : List ℕ) (k : ℕ) (rows outputs : List ℕ) → RunRead (runOf s st k rows outputs .answer)
-  pub double : (s buffer : List ℕ) → OutcomeRead (doubleOf s buffer .refusal)
+  pub check : (s : List ℕ) → outcomeRead (outcomeCode (checkRefusal s)) ≡ checkRefusal s
+  pub power-up : (s st : List ℕ) → outcomeRead (outcomeCode (powerUpOf s st .refusal)) ≡ powerUpOf s st .refusal
+  pub step : (s st row nets : List ℕ) → stepRead (answerCode verdictCode (stepOf s st row nets .answer)) ≡ stepOf s st row nets .answer
+  pub run :
+      (s st : List ℕ) (k : ℕ) (rows outputs : List ℕ)
+      → runRead (answerCode firstFlowCode (runOf s st k rows outputs .answer)) ≡ runOf s st k rows outputs .answer
+  pub double : (s buffer : List ℕ) → outcomeRead (outcomeCode (doubleOf s buffer .refusal)) ≡ doubleOf s buffer .refusal
+  -- 0 says that a check, a power-up or a doubling is done. It is no answer of a step, and no verdict of a run, below its cycle
+  pub done-is-0 : outcomeCode none ≡ 0
+  pub step-not-0 : (s st row nets : List ℕ) → 1 ≤ answerCode verdictCode (stepOf s st row nets .answer)
+  pub run-not-0 :
+      (s st : List ℕ) (k : ℕ) (rows outputs : List ℕ) {f : FirstFlow} → runOf s st k rows outputs .answer ≡ done f → 1 ≤ firstFlowCode f % 65536

@@ -18,14 +18,13 @@ fn refusal_code(r: Refusal) -> u64
     (r.number as u64) * 4294967296 + r.place as u64
 }
 
-// 0 for clear, or the flow's net + 1.
+// 65,535 for clear, or the flow's net.
 fn verdict_code(v: Verdict) -> u64
-    requires { ⌜ verdictCode (verdictIn v) < 2 ^ 64 ⌝ }
     ensures { λ c. ⌜ c ≡ verdictCode (verdictIn v) ⌝ }
 {
     match v {
-        Verdict::Clear => 0,
-        Verdict::Flow(net) => net as u64 + 1,
+        Verdict::Clear => 65535,
+        Verdict::Flow(net) => net as u64,
     }
 }
 

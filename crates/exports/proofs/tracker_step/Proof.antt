@@ -4,12 +4,12 @@ use native.Mathlib.Omega.{arith}
 use borrow.Author.Needs.{needs}
 use Rattle.tracker.specs.Calls.{Stepped}
 use Rattle.exports.specs.Codes.{verdictCode, answerCode}
-use Rattle.exports.proofs.Small.{answer-fits, step-answered}
+use Rattle.exports.proofs.Small.{answer-fits, step-answered, naming-small}
 use Rattle.exports.proofs.tracker_step.Statement.{statement}
 use Rattle.exports.proofs.tracker_step.Tie as tie
 
 step-code-requires : tie.Need-step-code-requires
-step-code-requires c κs = rw (ap (λ (d : Stepped). d .answer) (c .before .before .before .before .step .ensures)) (answer-fits verdictCode (λ v h. omega arith) (step-answered _ _ _ _))
+step-code-requires c κs = rw (ap (λ (d : Stepped). d .answer) (c .before .before .before .before .step .ensures)) (answer-fits verdictCode (λ v h. omega (arith, naming-small v h)) (step-answered _ _ _ _))
 
 returns : tie.Need-returns
 returns c =

@@ -19,9 +19,6 @@ whole c = subst (λ a. code a < 2 ^ 64) (c .before .a .given .1) (c .before .bef
 mul-result : tie.Need-mul-result
 mul-result c = record { fits = omega (arith, whole c) }
 
-verdict-code-requires : tie.Need-verdict-code-requires
-verdict-code-requires c κs = omega (arith, whole c)
-
 add-result : tie.Need-add-result
 add-result c = record { fits = rw (c .verdict-code .ensures) (whole (c .before)) }
 
@@ -36,4 +33,4 @@ returns-2 c = c .refusal-code .ensures ∙ ap code (sym (c .before .before .a2 .
 
 pub run-code-spec : {M : Type 1} → statement M
 run-code-spec =
-    tie.close (tie.spec (λ c. search needs) mul-result verdict-code-requires add-result (λ c. search needs) refusal-code-requires returns returns-2)
+    tie.close (tie.spec (λ c. search needs) mul-result (λ c κs. search needs) add-result (λ c. search needs) refusal-code-requires returns returns-2)

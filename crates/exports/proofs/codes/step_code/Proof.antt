@@ -1,4 +1,4 @@
--- `exports::codes::step_code` meets its contract: the code of the verdict or of the refusal fits, as is asked.
+-- `exports::codes::step_code` meets its contract: the code of the refusal fits, as is asked.
 use Prim.Native.Nat.{ℕ, _^_, _<_}
 use mathlib.Core.Path.{sym, ap, _∙_, subst}
 use borrow.Author.Needs.{needs}
@@ -11,9 +11,6 @@ use Rattle.exports.proofs.codes.step_code.Tie as tie
 abbrev code : StepAnswer → ℕ
 code a = answerCode verdictCode (stepAnswerIn a)
 
-verdict-code-requires : tie.Need-verdict-code-requires
-verdict-code-requires c κs = subst (λ a. code a < 2 ^ 64) (c .before .a .given .1) (c .before .before .before .pre)
-
 refusal-code-requires : tie.Need-refusal-code-requires
 refusal-code-requires c κs = subst (λ a. code a < 2 ^ 64) (c .before .a2 .given .1) (c .before .before .before .pre)
 
@@ -24,4 +21,4 @@ returns-2 : tie.Need-returns-2
 returns-2 c = c .refusal-code .ensures ∙ ap code (sym (c .before .before .a2 .given .1))
 
 pub step-code-spec : {M : Type 1} → statement M
-step-code-spec = tie.close (tie.spec (λ c. search needs) verdict-code-requires (λ c. search needs) refusal-code-requires returns returns-2)
+step-code-spec = tie.close (tie.spec (λ c. search needs) (λ c κs. search needs) (λ c. search needs) refusal-code-requires returns returns-2)
