@@ -1,5 +1,8 @@
 /* The gate-level trust tracker, for C.
  *
+ * The numbers of verdicts differ from those of the release before: clear is 65,535, where it was 0, and a flow is its net, where it was its net + 1.
+ * Programs that read them by themselves have to be changed, and those that read them by the functions at the end of this file to be compiled anew.
+ *
  * An image holds a netlist: four u16 sizes, low byte first, namely N nets, I inputs, R registers and O outputs; then N kind bytes; then N entries of
  * three u16 operands a, b and c. Its length is 8 + 7 x N. A byte of a pin, a register or a net is value + 2 x mark; mark 1 is untrusted.
  *
@@ -19,8 +22,9 @@
  *
  * Every answer is one number:
  *   - of a call that turned back: the refusal's number x 2^32 + its place. No lent byte has changed, but that 17 sets `buffer` to 0;
- *   - otherwise a number below 2^32: 0 for done; for a step 0 for clear, or the flow's net + 1; for a run the cycle x 65,536 + (0 for clear, or
- *     the flow's net + 1).
+ *   - otherwise a number below 2^32: of a check, a power-up or a doubling 0; of a step its verdict, 65,535 for clear or the net of the flow; of a run
+ *     the cycle x 65,536 + the verdict.
+ * No verdict is 0, since net 0 is never an OUT. So an answer variable that is still 0, or the answer of tracker_check, does not read as clear.
  */
 #ifndef TRACKER_H
 #define TRACKER_H
@@ -34,6 +38,9 @@ extern "C" {
 
 /* The most nets of a netlist, and the most cycles of a run. */
 enum { TRACKER_MOST_NETS = 8192, TRACKER_MOST_CYCLES = 4096 };
+
+/* The number of a clear verdict, which is no net's number. */
+enum { TRACKER_CLEAR = 65535 };
 
 /* The numbers of refusals, in document 01's table. */
 enum {
@@ -86,13 +93,17 @@ uint64_t tracker_double(const uint8_t *image, size_t image_length,
 static inline uint32_t tracker_refusal(uint64_t answer) { return (uint32_t)(answer >> 32); }
 static inline uint32_t tracker_place(uint64_t answer) { return (uint32_t)answer; }
 
-/* The net of the flow in a step's or a run's answer; -1 where the verdict is clear, and -2 where the call turned back and there is no verdict. */
+/* The net of the flow in a step's or a run's answer; -1 where the verdict is clear, and -2 where the call turned back and there is no verdict. Of 0,
+ * which no step and no run answers, it makes a flow at net 0, which is never an OUT. */
 static inline int32_t tracker_flow(uint64_t answer)
 {
-    return tracker_refusal(answer) != 0 ? -2 : (int32_t)(answer & 0xffff) - 1;
+    int32_t verdict = (int32_t)(answer & 0xffff);
+    if (tracker_refusal(answer) != 0)
+        return -2;
+    return verdict == TRACKER_CLEAR ? -1 : verdict;
 }
 
-/* Whether a step or a run answered with a clear verdict: 0 for a flow, and 0 for a refusal. */
+/* Whether a step or a run answered with a clear verdict: 0 for a flow, for a refusal, and for 0. */
 static inline int tracker_is_clear(uint64_t answer) { return tracker_flow(answer) == -1; }
 
 /* The cycle in the answer of a run that did not turn back. */

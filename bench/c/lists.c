@@ -15,6 +15,9 @@ typedef __UINT64_TYPE__ uint64_t;
 enum { HEAD = 8, MOST_NETS = 8192 };
 enum { CONST = 0, INPUT = 1, REG = 2, NOT = 3, OUT = 8 };
 
+// The number of a clear verdict.
+enum { CLEAR = 65535 };
+
 // The u16 at a place. The machine has the low byte first, as the image has.
 static inline size_t u16_at(const uint8_t *place) {
     uint16_t number;
@@ -69,32 +72,32 @@ static inline void settle_nets(const uint8_t *restrict kinds, const uint8_t *res
     for (; i < n; i++) settle(kinds, operands, table, i, nets);
 }
 
-// The first of the listed OUTs that is protected and marked, + 1, or 0.
+// The first of the listed OUTs that is protected and marked, or CLEAR.
 static inline size_t verdict(const uint8_t *operands, const uint16_t *list, size_t count, const uint8_t *nets) {
     for (size_t j = 0; j < count; j++)
-        if (operand(operands, list[j], 1) == 1 && (nets[list[j]] & 2)) return list[j] + 1u;
-    return 0;
+        if (operand(operands, list[j], 1) == 1 && (nets[list[j]] & 2)) return list[j];
+    return CLEAR;
 }
 
-// The k cycles of an accepted run: cycle * 65,536 + the net of the first flow + 1,
-// or k * 65,536. The table has a code for each kind and each byte of its pins.
+// The k cycles of an accepted run: cycle * 65,536 + the net of the first flow, or
+// k * 65,536 + CLEAR. The table has a code for each kind and each byte of its pins.
 uint64_t lists_cycles(const uint8_t *restrict image, const uint8_t *restrict table, size_t k, uint8_t *restrict state,
                       const uint8_t *restrict rows, uint8_t *restrict outputs) {
     size_t n = u16_at(image), inputs = u16_at(image + 2), registers = u16_at(image + 4), outs = u16_at(image + 6);
     const uint8_t *kinds = image + HEAD, *operands = kinds + n;
     uint8_t nets[MOST_NETS];
     uint16_t list[MOST_NETS], *regs = list + inputs, *out = regs + registers;
-    uint64_t first = (uint64_t)k << 16;
+    uint64_t first = ((uint64_t)k << 16) + CLEAR;
     list_nets(kinds, INPUT, list, inputs);
     list_nets(kinds, REG, regs, registers);
     list_nets(kinds, OUT, out, outs);
     set_constants(kinds, operands, n, nets);
-    size_t from = lowest_gate(kinds, n), net = 0;
+    size_t from = lowest_gate(kinds, n), net = CLEAR;
     for (size_t cycle = 0; cycle < k; cycle++, rows += inputs, outputs += outs) {
         put_bytes(list, inputs, rows, nets);
         put_bytes(regs, registers, state, nets);
         settle_nets(kinds, operands, table, from, n, nets);
-        if (net == 0 && (net = verdict(operands, out, outs, nets)) != 0) first = (cycle << 16) + net;
+        if (net == CLEAR && (net = verdict(operands, out, outs, nets)) != CLEAR) first = (cycle << 16) + net;
         for (size_t j = 0; j < outs; j++) outputs[j] = nets[out[j]];
         for (size_t j = 0; j < registers; j++) state[j] = nets[operand(operands, regs[j], 0)];
     }

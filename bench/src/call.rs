@@ -12,6 +12,9 @@ pub struct Call<'a> {
     pub outputs: &'a mut [u8],
 }
 
+/// The number of a clear verdict.
+pub const CLEAR: u64 = 65535;
+
 /// The cycle and the net of the first flow, if there is one.
 pub type First = Option<(usize, usize)>;
 
@@ -23,8 +26,8 @@ pub fn checked(call: Call, cycles: impl FnOnce(Call, Sizes) -> First) -> u64 {
     match check_run(&call) {
         Err(refusal) => refusal,
         Ok(sizes) => match cycles(call, sizes) {
-            Some((cycle, net)) => cycle as u64 * 65536 + net as u64 + 1,
-            None => k * 65536,
+            Some((cycle, net)) => cycle as u64 * 65536 + net as u64,
+            None => k * 65536 + CLEAR,
         },
     }
 }

@@ -1,6 +1,6 @@
 //! The peer in C (c/lists.c), which clang compiles where it is there.
 
-use crate::call::{Call, First};
+use crate::call::{Call, First, CLEAR};
 use crate::forms::table::TABLE;
 use crate::image::Sizes;
 
@@ -22,5 +22,5 @@ pub fn cycles(call: Call, _: Sizes) -> First {
     // SAFETY: the image, the state and the rows have been accepted.
     let first = unsafe { lists_cycles(image, table, call.k, state, rows, outputs) };
     let (cycle, net) = (first >> 16, first & 0xffff);
-    (net > 0).then(|| (cycle as usize, net as usize - 1))
+    (net != CLEAR).then(|| (cycle as usize, net as usize))
 }

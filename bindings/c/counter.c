@@ -80,8 +80,8 @@ static void power_up_and_step(void)
     printf("\n");
 }
 
-/* A call that turned back has no verdict, so it is not clear. */
-static void step_on_bad_byte(void)
+/* A call that turned back has no verdict, so it is not clear; nor is 0, the answer of a check. */
+static void answers_that_are_not_clear(void)
 {
     uint8_t state[1] = { 0 };
     uint8_t nets[6] = { 0 };
@@ -91,6 +91,9 @@ static void step_on_bad_byte(void)
     printf("step on 4: ");
     print_verdict(answer);
     printf("; %s\n", tracker_is_clear(answer) ? "clear" : "not clear");
+
+    answer = tracker_check(counter, sizeof counter);
+    printf("check, read as a step: %s\n", tracker_is_clear(answer) ? "clear" : "not clear");
 }
 
 static void power_up_and_run(void)
@@ -162,7 +165,7 @@ int main(void)
     print_done(tracker_check(counter, sizeof counter));
     printf("\n");
     power_up_and_step();
-    step_on_bad_byte();
+    answers_that_are_not_clear();
     power_up_and_run();
     double_counter(doubled);
     run_doubled(doubled);

@@ -9,11 +9,14 @@ pub fn refusal(refusal: Refusal) -> u64 {
     (u64::from(refusal.number) << 32) + refusal.place as u64
 }
 
-/// A verdict: 0 for clear, or the flow's net + 1.
+/// The number of a clear verdict.
+pub const CLEAR: u64 = 65_535;
+
+/// A verdict: 65,535 for clear, or the flow's net.
 pub fn verdict(verdict: Verdict) -> u64 {
     match verdict {
-        Verdict::Clear => 0,
-        Verdict::Flow(net) => net as u64 + 1,
+        Verdict::Clear => CLEAR,
+        Verdict::Flow(net) => net as u64,
     }
 }
 
@@ -38,8 +41,8 @@ pub fn in_words(name: Name, answer: u64) -> String {
         return format!("refusal {}, place {}", number_of(answer), place_of(answer));
     }
     let verdict = match answer % 65_536 {
-        0 => String::from("clear"),
-        coded => format!("flow {}", coded - 1),
+        CLEAR => String::from("clear"),
+        net => format!("flow {net}"),
     };
     match name {
         Name::Step if answer < 65_536 => verdict,

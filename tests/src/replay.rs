@@ -2,6 +2,7 @@
 
 use crate::call::Call;
 use crate::case::Case;
+use crate::coding::CLEAR;
 use crate::counts::Counts;
 use crate::failure::Failure;
 
@@ -29,7 +30,7 @@ pub fn steps(
         let buffer = case.random.bytes(counts.nets);
         let mut step = Call::step(state, row.to_vec(), buffer);
         let verdict = case.ask(image, &mut step)?;
-        if verdict > counts.nets as u64 {
+        if verdict != CLEAR && !(1..counts.nets as u64).contains(&verdict) {
             return Err(case.broken(image, &step, verdict, "a good step has a verdict"));
         }
         state = step.state.clone();
@@ -55,11 +56,11 @@ pub fn outputs(cycles: &[Cycle], counts: &Counts) -> Vec<u8> {
 /// number of cycles and clear.
 pub fn first_flow(cycles: &[Cycle]) -> u64 {
     for (number, cycle) in cycles.iter().enumerate() {
-        if cycle.verdict != 0 {
+        if cycle.verdict != CLEAR {
             return number as u64 * 65_536 + cycle.verdict;
         }
     }
-    cycles.len() as u64 * 65_536
+    cycles.len() as u64 * 65_536 + CLEAR
 }
 
 /// Asks that an accepted run left what these steps left: the first flow, the

@@ -3,7 +3,7 @@
 use std::fmt;
 
 use crate::call::{Call, Name};
-use crate::coding::{number_of, place_of};
+use crate::coding::{number_of, place_of, CLEAR};
 
 /// The counts of all calls that went well.
 #[derive(Default)]
@@ -40,7 +40,7 @@ impl Tally {
 
     fn note_accepted(&mut self, name: Name, answer: u64) {
         self.accepted[name as usize] += 1;
-        if matches!(name, Name::Step | Name::Run) && answer % 65_536 > 0 {
+        if matches!(name, Name::Step | Name::Run) && answer % 65_536 != CLEAR {
             self.flows += 1;
         }
     }

@@ -3,8 +3,8 @@
 //! The upper 32 bits of an answer are the number of a refusal, and the lower 32
 //! its place. Where the upper are 0 the call did not turn back: the lower are 0
 //! for done; for a step the code of its verdict; for a run the cycle × 65,536 +
-//! the code of its verdict. The code of a verdict is 0 for clear, and the
-//! flow's net + 1 for a flow.
+//! the code of its verdict. The code of a verdict is 65,535 for clear, and the
+//! flow's net for a flow. It is never 0, since net 0 is no OUT.
 
 use crate::{FirstFlow, Reason, Refusal, Verdict, MOST_CYCLES, MOST_NETS};
 
@@ -45,11 +45,18 @@ fn accepted(answer: u64) -> Result<usize, Refusal> {
     }
 }
 
-/// The verdict of a code, or none where the net is too large.
+/// The code of a clear verdict, which is no net's number.
+const CLEAR: usize = 65_535;
+
+/// The last net of the largest netlist.
+const LAST_NET: usize = MOST_NETS - 1;
+
+/// The verdict of a code, or none where it is neither clear nor a net that can
+/// be an OUT.
 fn verdict(code: usize) -> Option<Verdict> {
     match code {
-        0 => Some(Verdict::Clear),
-        1..=MOST_NETS => Some(Verdict::Flow { net: code - 1 }),
+        CLEAR => Some(Verdict::Clear),
+        1..=LAST_NET => Some(Verdict::Flow { net: code }),
         _ => None,
     }
 }

@@ -1,6 +1,6 @@
 //! Stand-ins with wrong answers. The bytes that they leave are right.
 
-use crate::parts::{bytes, kind, operand, refusal, size};
+use crate::parts::{bytes, kind, operand, refusal, size, CLEAR};
 use tests::{Calls, LIBRARY};
 
 const ONE: u64 = 1 << 32;
@@ -71,7 +71,7 @@ unsafe extern "C" fn step_highest_flow(
     let flows = |net: &usize| {
         kind(image, *net) == 8 && operand(image, *net, 1) == 1 && nets[*net] >= 2
     };
-    (0..nl).rev().find(flows).map_or(0, |net| net as u64 + 1)
+    (0..nl).rev().find(flows).map_or(CLEAR, |net| net as u64)
 }
 
 /// Says clear of every run.
@@ -87,8 +87,25 @@ unsafe extern "C" fn run_always_clear(
 ) -> u64 {
     let answer = (LIBRARY.run)(image, il, k, state, sl, rows, rl, outputs, ol);
     match refusal(answer) {
-        0 => k as u64 * 65_536,
+        0 => k as u64 * 65_536 + CLEAR,
         _ => answer,
+    }
+}
+
+/// Answers 0 for a clear step, as for a call that is done.
+pub const CLEAR_IS_0: Calls = Calls {
+    step: step_clear_is_0,
+    ..LIBRARY
+};
+
+#[rustfmt::skip]
+unsafe extern "C" fn step_clear_is_0(
+    image: *const u8, il: usize, state: *mut u8, sl: usize,
+    row: *const u8, rl: usize, nets: *mut u8, nl: usize,
+) -> u64 {
+    match (LIBRARY.step)(image, il, state, sl, row, rl, nets, nl) {
+        CLEAR => 0,
+        answer => answer,
     }
 }
 

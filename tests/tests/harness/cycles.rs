@@ -1,6 +1,6 @@
 //! Stand-ins that get the cycles wrong: the clock, or what a run leaves.
 
-use crate::parts::{bytes, bytes_mut, kind, operand, refusal, size};
+use crate::parts::{bytes, bytes_mut, kind, operand, refusal, size, CLEAR};
 use tests::{Calls, LIBRARY};
 
 /// Steps without a clock: the state stays as it was.
@@ -58,7 +58,7 @@ unsafe extern "C" fn run_stops_at_flow(
 ) -> u64 {
     let before = bytes(outputs, ol).to_vec();
     let answer = (LIBRARY.run)(image, il, k, state, sl, rows, rl, outputs, ol);
-    if refusal(answer) == 0 && answer % 65_536 > 0 {
+    if refusal(answer) == 0 && answer % 65_536 != CLEAR {
         let cycles = (answer / 65_536) as usize + 1;
         let filled = cycles * size(bytes(image, il), 3);
         bytes_mut(outputs, ol)[filled..].copy_from_slice(&before[filled..]);

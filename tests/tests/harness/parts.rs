@@ -12,6 +12,9 @@ pub unsafe fn bytes_mut<'a>(pointer: *mut u8, length: usize) -> &'a mut [u8] {
     from_raw_parts_mut(pointer, length)
 }
 
+/// The number of a clear verdict.
+pub const CLEAR: u64 = 65_535;
+
 /// The number of the refusal in an answer, or 0.
 pub fn refusal(answer: u64) -> u64 {
     answer >> 32

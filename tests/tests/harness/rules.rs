@@ -1,6 +1,6 @@
 //! Stand-ins with a wrong gate rule, in steps and in runs alike.
 
-use crate::parts::{bytes, bytes_mut, kind, operand, refusal, size};
+use crate::parts::{bytes, bytes_mut, kind, operand, refusal, size, CLEAR};
 use reference::{and_byte, mux_byte, not_byte, or_byte, xor_byte};
 use tests::{Calls, LIBRARY};
 
@@ -64,7 +64,7 @@ fn cycle(rule: Rule, image: &[u8], state: &mut [u8], row: &[u8]) -> (Vec<u8>, u6
     let n = size(image, 0);
     let mut nets = vec![0; n];
     let (mut inputs, mut registers) = (row.iter(), state.iter());
-    let mut verdict = 0;
+    let mut verdict = CLEAR;
     for net in 0..n {
         let pins = [0, 1, 2].map(|index| operand(image, net, index));
         nets[net] = match kind(image, net) {
@@ -73,8 +73,8 @@ fn cycle(rule: Rule, image: &[u8], state: &mut [u8], row: &[u8]) -> (Vec<u8>, u6
             2 => *registers.next().unwrap(),
             kind => rule(kind, pins, pins.map(|pin| nets[pin])),
         };
-        if kind(image, net) == 8 && pins[1] == 1 && nets[net] >= 2 && verdict == 0 {
-            verdict = net as u64 + 1;
+        if kind(image, net) == 8 && pins[1] == 1 && nets[net] >= 2 && verdict == CLEAR {
+            verdict = net as u64;
         }
     }
     let registers = (0..n).filter(|net| kind(image, *net) == 2);
@@ -111,12 +111,12 @@ unsafe extern "C" fn run<const RULE: usize>(
         return answer;
     }
     let (image, rows) = (bytes(image, il), bytes(rows, rl));
-    let (inputs, mut filled, mut first) = (size(image, 1), Vec::new(), k as u64 * 65_536);
+    let (inputs, mut filled, mut first) = (size(image, 1), Vec::new(), k as u64 * 65_536 + CLEAR);
     for number in 0..k {
         let row = &rows[number * inputs..(number + 1) * inputs];
         let (nets, verdict) = cycle(RULES[RULE], image, &mut own, row);
         filled.extend((0..nets.len()).filter(|net| kind(image, *net) == 8).map(|net| nets[net]));
-        if verdict != 0 && first % 65_536 == 0 {
+        if verdict != CLEAR && first % 65_536 == CLEAR {
             first = number as u64 * 65_536 + verdict;
         }
     }

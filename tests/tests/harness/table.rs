@@ -76,7 +76,7 @@ fn image(failure: &Failure) -> bool {
 }
 
 #[rustfmt::skip]
-pub const STAND_INS: [StandIn; 27] = [
+pub const STAND_INS: [StandIn; 28] = [
     stand_in("accepts wrong counts", answers::ACCEPTS_WRONG_COUNTS,
         &["operands", "damaged", "noise", "lists"], answer),
     stand_in("answers with the next net", answers::NEXT_PLACE,
@@ -87,6 +87,8 @@ pub const STAND_INS: [StandIn; 27] = [
         &["good", "large", "lists", "two_runs", "steps"], answer),
     stand_in("says clear of every run", answers::ALWAYS_CLEAR,
         &["exhaustive", "good", "large", "extreme", "lists", "two_runs", "steps"], answer),
+    stand_in("answers 0 for a clear step", answers::CLEAR_IS_0,
+        &["exhaustive", "good", "large", "lists", "two_runs", "steps"], answer),
     stand_in("turns every image back", answers::TURNS_ALL_BACK,
         &["exhaustive", "operands", "good", "lent", "doubling", "pairing", "two_runs", "steps"],
         answer),

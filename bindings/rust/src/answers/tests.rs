@@ -11,28 +11,28 @@ fn first_flow(cycle: usize, verdict: Verdict) -> Result<FirstFlow, Refusal> {
 }
 
 #[test]
-fn zero_is_done_and_clear() {
+fn zero_is_done() {
     assert_eq!(done(0), Ok(()));
-    assert_eq!(step(0), Ok(Verdict::Clear));
-    assert_eq!(run(0), first_flow(0, Verdict::Clear));
 }
 
 #[test]
-fn a_step_holds_its_flow_plus_one() {
-    assert_eq!(step(1), Ok(Verdict::Flow { net: 0 }));
-    assert_eq!(step(6), Ok(Verdict::Flow { net: 5 }));
-    assert_eq!(step(8_192), Ok(Verdict::Flow { net: 8_191 }));
+fn a_step_holds_its_verdict() {
+    assert_eq!(step(65_535), Ok(Verdict::Clear));
+    assert_eq!(step(1), Ok(Verdict::Flow { net: 1 }));
+    assert_eq!(step(5), Ok(Verdict::Flow { net: 5 }));
+    assert_eq!(step(8_191), Ok(Verdict::Flow { net: 8_191 }));
 }
 
-// 65,542 is 65,536 + 6, and 262,144 is 4 × 65,536. 268,378,112 is 4,095 ×
-// 65,536 + 8,192, and 268,435,456 is 4,096 × 65,536.
+// 65,541 is 65,536 + 5, and 327,679 is 4 × 65,536 + 65,535. 268,378,111 is
+// 4,095 × 65,536 + 8,191, and 268,500,991 is 4,096 × 65,536 + 65,535.
 #[test]
-fn a_run_holds_its_cycle_above_the_flow() {
-    assert_eq!(run(65_542), first_flow(1, Verdict::Flow { net: 5 }));
-    assert_eq!(run(262_144), first_flow(4, Verdict::Clear));
+fn a_run_holds_its_cycle_above_its_verdict() {
+    assert_eq!(run(65_535), first_flow(0, Verdict::Clear));
+    assert_eq!(run(65_541), first_flow(1, Verdict::Flow { net: 5 }));
+    assert_eq!(run(327_679), first_flow(4, Verdict::Clear));
     let last = Verdict::Flow { net: 8_191 };
-    assert_eq!(run(268_378_112), first_flow(4_095, last));
-    assert_eq!(run(268_435_456), first_flow(4_096, Verdict::Clear));
+    assert_eq!(run(268_378_111), first_flow(4_095, last));
+    assert_eq!(run(268_500_991), first_flow(4_096, Verdict::Clear));
 }
 
 // 1, 6, 9, 13, 16 and 17 times 2^32, and the place: 33,554,431 is the index of
@@ -60,28 +60,54 @@ fn done_is_zero_alone() {
     let _ = done(1);
 }
 
+// 0 is the answer of a check, and neither clear nor a flow.
 #[test]
-#[should_panic(expected = "the answer 8193, which")]
+#[should_panic(expected = "the answer 0, which")]
+fn zero_is_no_answer_of_a_step() {
+    let _ = step(0);
+}
+
+#[test]
+#[should_panic(expected = "the answer 0, which")]
+fn zero_is_no_answer_of_a_run() {
+    let _ = run(0);
+}
+
+// 262,144 is 4 × 65,536, a cycle without a verdict.
+#[test]
+#[should_panic(expected = "the answer 262144, which")]
+fn a_run_without_a_verdict_is_unknown() {
+    let _ = run(262_144);
+}
+
+#[test]
+#[should_panic(expected = "the answer 65535, which")]
+fn a_verdict_is_not_done() {
+    let _ = done(65_535);
+}
+
+#[test]
+#[should_panic(expected = "the answer 8192, which")]
 fn a_flow_at_net_8192_is_unknown() {
-    let _ = step(8_193);
+    let _ = step(8_192);
 }
 
 #[test]
-#[should_panic(expected = "the answer 65536, which")]
+#[should_panic(expected = "the answer 131071, which")]
 fn a_step_holds_no_cycle() {
-    let _ = step(65_536);
+    let _ = step(131_071);
 }
 
-// 8,193 is cycle 0 and a flow at net 8,192.
+// 8,192 is cycle 0 and a flow at net 8,192.
 #[test]
-#[should_panic(expected = "the answer 8193, which")]
+#[should_panic(expected = "the answer 8192, which")]
 fn a_run_with_a_flow_at_net_8192_is_unknown() {
-    let _ = run(8_193);
+    let _ = run(8_192);
 }
 
-// 268,500,992 is 4,097 × 65,536.
+// 268,566,527 is 4,097 × 65,536 + 65,535.
 #[test]
-#[should_panic(expected = "the answer 268500992, which")]
+#[should_panic(expected = "the answer 268566527, which")]
 fn a_run_with_cycle_4097_is_unknown() {
-    let _ = run(268_500_992);
+    let _ = run(268_566_527);
 }
