@@ -1,5 +1,5 @@
 -- What is read from the number of an answer is the answer.
-use Prim.Native.Nat.{ℕ, _/_, _%_, _^_, _≤_}
+use Prim.Native.Nat.{ℕ, _/_, _%_, _^_, _≤_, _<_}
 use native.Mathlib.Omega.{arith}
 use mathlib.Core.Path.{_≡_, refl, ap}
 use mathlib.Core.Option.{Option}
@@ -37,8 +37,15 @@ verdict-not-0 no-net = omega arith
 verdict-not-0 (names l m) = l
 
 step-read : {a : Answer Verdict} → Answered (Naming 8192) a → stepRead (answerCode verdictCode a) ≡ a
-step-read (gave v h) = rw (lt-ltb (verdictCode v) (2 ^ 32) (omega (arith, naming-small v h)), verdict-read h)
+step-read (gave v h) =
+    let small = naming-small v h in
+    let rest : verdictCode v % 65536 ≡ verdictCode v = omega arith in
+    rw (lt-ltb (verdictCode v) (2 ^ 32) (omega arith), rest, verdict-read h)
 step-read (turned-back {r} t) = rw (le-ltb (refusalCode r) (2 ^ 32) (large t), refusal-read t)
+
+step-below : {a : Answer Verdict} → Answered (Naming 8192) a → {v : Verdict} → a ≡ done v → verdictCode v < 65536
+step-below (gave w h) {v} e = let same : w ≡ v = cc in rw (← same) (naming-small w h)
+step-below (turned-back t) {v} e = let z : _≡_ {A = ℕ} 0 1 = cc in absurd (omega arith)
 
 step-some : {a : Answer Verdict} → Answered (Naming 8192) a → 1 ≤ answerCode verdictCode a
 step-some (gave v h) = verdict-not-0 h
@@ -69,6 +76,7 @@ reads =
       step = λ s st row nets. step-read (step-answered s st row nets);
       run = λ s st k rows outputs. run-read (run-answered s st k rows outputs);
       double = λ s buffer. outcome-read (doubled-given s buffer);
+      step-small = λ s st row nets e. step-below (step-answered s st row nets) e;
       done-is-0 = refl;
       step-not-0 = λ s st row nets. step-some (step-answered s st row nets);
       run-not-0 = λ s st k rows outputs e. run-some (run-answered s st k rows outputs) e;

@@ -1,5 +1,5 @@
 -- How the number that a call answers with is read, by the divisions and rests of include/tracker.h; and that what is read is the answer itself.
-use Prim.Native.Nat.{ℕ, _/_, _%_, _^_, _≤_}
+use Prim.Native.Nat.{ℕ, _/_, _%_, _^_, _≤_, _<_}
 use mathlib.Core.Path.{_≡_}
 use mathlib.Core.List.{List}
 use mathlib.Core.Option.{Option, none, some}
@@ -24,9 +24,9 @@ outcomeRead n = cond (ltb n (2 ^ 32)) none (some (refusalRead n))
 abbrev pub verdictRead : ℕ → Verdict
 verdictRead n = cond (eqb n 65535) clear (flow n)
 
--- a step
+-- a step: the header reads its verdict as it reads that of a run
 abbrev pub stepRead : ℕ → Answer Verdict
-stepRead n = cond (ltb n (2 ^ 32)) (done (verdictRead n)) (refused (refusalRead n))
+stepRead n = cond (ltb n (2 ^ 32)) (done (verdictRead (n % 65536))) (refused (refusalRead n))
 
 -- the first flow of a run: its cycle stands above its verdict
 abbrev pub firstFlowRead : ℕ → FirstFlow
@@ -45,7 +45,9 @@ pub record CodesRead : Type 0 where
       (s st : List ℕ) (k : ℕ) (rows outputs : List ℕ)
       → runRead (answerCode firstFlowCode (runOf s st k rows outputs .answer)) ≡ runOf s st k rows outputs .answer
   pub double : (s buffer : List ℕ) → outcomeRead (outcomeCode (doubleOf s buffer .refusal)) ≡ doubleOf s buffer .refusal
-  -- 0 says that a check, a power-up or a doubling is done. It is no answer of a step, and no verdict of a run, below its cycle
+  -- a step has nothing above its verdict
+  pub step-small : (s st row nets : List ℕ) {v : Verdict} → stepOf s st row nets .answer ≡ done v → verdictCode v < 65536
+  -- 0 says that a check, a power-up or a doubling is done. It is no answer of a step, and no verdict of a run
   pub done-is-0 : outcomeCode none ≡ 0
   pub step-not-0 : (s st row nets : List ℕ) → 1 ≤ answerCode verdictCode (stepOf s st row nets .answer)
   pub run-not-0 :
