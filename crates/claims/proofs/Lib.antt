@@ -14,3 +14,5 @@ pub mod Pairing
 pub mod TwoRun
 pub mod OneRun
 pub mod ClearRun
+pub mod Splitting
+pub mod DoubledRun

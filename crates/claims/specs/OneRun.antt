@@ -53,7 +53,7 @@ pub record ShowsInTwo (o o′ : Ran) : Type 0 where
   pub first : FirstFlow
   pub answer : o′ .answer ≡ done first
   pub values : (j : ℕ) → j < length (o .outputs) → getD (o′ .outputs) (2 * j) 0 % 2 ≡ getD (o .outputs) j 0 % 2
-  pub marks : (j : ℕ) → j < length (o .outputs) → getD (o′ .outputs) (2 * j + 1) 0 % 2 ≡ getD (o .outputs) j 0 / 2 % 2
+  pub marks : (j : ℕ) → j < length (o .outputs) → getD (o′ .outputs) (2 * j + 1) 0 % 2 ≡ getD (o .outputs) j 0 / 2
 
 -- a run on the image that doubling leaves in its buffer shows this, wherever doubling and the run are not refused; proved as `doubled-shows`
 abbrev pub DoubledShows : Type 0

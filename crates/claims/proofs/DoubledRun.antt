@@ -1,0 +1,109 @@
+-- A run of the doubled netlist shows the values and marks of the source's run.
+use Prim.Native.Nat.{ℕ, _+_, _*_, _%_}
+use native.Mathlib.Omega.{arith}
+use mathlib.Core.Path.{_≡_, refl, sym, ap, ap₂, _∙_}
+use mathlib.Core.List.{List, [], _∷_, _++_, map, map-append, append-nil, Forall₂, Forall₂·nil, Forall₂·cons}
+use mathlib.Core.Option.{none}
+use lib.ListN.{length, getD, List·getD-map}
+use Rattle.netlist.specs.Image.{sizesOf, netsOf}
+use Rattle.netlist.specs.declared.answer.Refusal.{Refusal}
+use Rattle.netlist.proofs.Checked.{check-none}
+use Rattle.tracker.specs.Cycle.{FirstFlow, outputsFrom}
+use Rattle.tracker.specs.Calls.{Answer, done, refused, Stepped, powerUpOf, Ran, runOf, runRefusal}
+use Rattle.tracker.proofs.Calls.{either-way, run-none}
+use Rattle.doubling.specs.Doubled.{doubledSize, doubledImage, doubleRefusal, doubleOf, split}
+use Rattle.doubling.proofs.Checks.{doubled-sizes, double-none, double-refused, double-accepted}
+use Rattle.claims.specs.Steps.{stepsOf, outputsIn}
+use Rattle.claims.specs.History.{Call, run, ran, CallAnswer, CallResult, refusalOf, accepted, Finished, AllFinished, Made, AllMade}
+use Rattle.claims.specs.Pairing.{Again, run-again, shown, Shows, Paired}
+use Rattle.claims.specs.OneRun.{fromPowerUp, InTwo, ShowsInTwo, DoubledShows}
+use Rattle.claims.proofs.Unchanged.{not-some}
+use Rattle.claims.proofs.History.{accepted-none}
+use Rattle.claims.proofs.Splitting.{split-value, split-mark, split-append, in-two}
+use Rattle.claims.proofs.Pairing.{demand2}
+use Rattle.claims.proofs.OneRun.{powered, run-taken, RunResult, run-ends, run-result}
+
+-- CYCLES that show the same: so do the outputs of all of them
+outputs-shown : (s d : List ℕ) {os os′ : List Stepped} → Forall₂ (Shows s d) os os′ → map (λ x. x % 2) (outputsIn d os′) ≡ split (outputsIn s os)
+unfolding outputsIn shown split
+outputs-shown s d Forall₂·nil = refl
+outputs-shown s d (Forall₂·cons {a = o} {b = o′} {l₁ = os} {l₂ = os′} h t) =
+    map-append (λ x. x % 2) (outputsFrom 0 (netsOf d) (o′ .nets)) (outputsIn d os′)
+    ∙ ap₂ (λ p q. p ++ q) (h .pairs) (outputs-shown s d t)
+    ∙ sym (split-append (outputsFrom 0 (netsOf s) (o .nets)) (outputsIn s os))
+
+in-one : {A B : Type 0} {R : A → B → Type 0} {xs : List A} {ys : List B} → Forall₂ R (xs ++ []) (ys ++ []) → Forall₂ R xs ys
+in-one {xs = xs} {ys} h = rw (append-nil xs, append-nil ys) at h
+
+-- ONE CALL, a run
+record OneMade (s st : List ℕ) (k : ℕ) (rows outputs : List ℕ) (all : List Stepped) (f : FirstFlow) : Type 0 where
+  cycles : all ≡ stepsOf s st k rows ++ []
+  outs : runOf s st k rows outputs .outputs ≡ outputsIn s (stepsOf s st k rows)
+  answer : runOf s st k rows outputs .answer ≡ done f
+
+one-made : (s st : List ℕ) (k : ℕ) (rows outputs : List ℕ) {ms : List CallResult} {all : List Stepped} (f : FirstFlow)
+    → AllMade s st (run k rows outputs ∷ []) ms all → runOf s st k rows outputs .answer ≡ done f → OneMade s st k rows outputs all f
+one-made s st k rows outputs f (AllMade.cons p AllMade.nil) h =
+    let r = run-result s st k rows outputs p (run-ends s st k rows outputs p h) .0 in
+    record { cycles = rw (r .cycles); outs = r .steps .outs; answer = h }
+
+-- a run that is finished has a first flow
+record Some (a : Answer FirstFlow) : Type 0 where
+  first : FirstFlow
+  is : a ≡ done first
+
+not-finished : {a : CallAnswer} {r : Refusal} → Finished a → a ≡ ran (refused r) → ⊥
+not-finished Finished.a-step e = let z : _≡_ {A = ℕ} 0 1 = cc in omega arith
+not-finished Finished.a-run e = let z : _≡_ {A = ℕ} 0 1 = cc in omega arith
+
+run-finished : (s st : List ℕ) (k : ℕ) (rows outputs : List ℕ) {m : CallResult} → Made s st (run k rows outputs) m → Finished (m .answer) → Some (runOf s st k rows outputs .answer)
+run-finished s st k rows outputs (Made.run-refused e h) t = absurd (not-finished t (ap ran h))
+run-finished s st k rows outputs (Made.run-done {f = f} e h a) t = record { first = f; is = rw (← e) h }
+
+one-finished : (s st : List ℕ) (k : ℕ) (rows outputs : List ℕ) {ms : List CallResult} {all : List Stepped}
+    → AllMade s st (run k rows outputs ∷ []) ms all → AllFinished ms → Some (runOf s st k rows outputs .answer)
+one-finished s st k rows outputs (AllMade.cons p AllMade.nil) (AllFinished.cons t u) = run-finished s st k rows outputs p t
+
+-- bytes whose values are these: one of them
+plain-at : (xs : List ℕ) {ys : List ℕ} → map (λ x. x % 2) xs ≡ ys → (j : ℕ) → getD xs j 0 % 2 ≡ getD ys j 0
+plain-at xs e j = sym (List·getD-map (λ x. x % 2) xs j 0) ∙ ap (λ ys. getD ys j 0) e
+
+-- demand 2 of one run, on any image d that shows the same
+shows-run : (s d a a′ : List ℕ) (k : ℕ) (rows outputs outputs′ : List ℕ) (f : FirstFlow)
+    → Paired s d a a′ (run k rows outputs ∷ []) (run k (split rows) outputs′ ∷ []) → fromPowerUp s a k rows outputs .answer ≡ done f
+    → ShowsInTwo (fromPowerUp s a k rows outputs) (fromPowerUp d a′ k (split rows) outputs′)
+shows-run s d a a′ k rows outputs outputs′ f p h =
+    let again = one-finished d (powerUpOf d a′ .state) k (split rows) outputs′ (p .made-again) (p .finished) in
+    let m = one-made s (powerUpOf s a .state) k rows outputs f (p .made) h in
+    let n = one-made d (powerUpOf d a′ .state) k (split rows) outputs′ (again .first) (p .made-again) (again .is) in
+    let all = outputs-shown s d (in-one (rw (m .cycles, n .cycles) at (p .cycles))) in
+    let e : map (λ x. x % 2) (fromPowerUp d a′ k (split rows) outputs′ .outputs) ≡ split (fromPowerUp s a k rows outputs .outputs) = rw (m .outs, n .outs) all in
+    let byte = plain-at (fromPowerUp d a′ k (split rows) outputs′ .outputs) e in
+    record {
+      first = again .first;
+      answer = again .is;
+      values = λ j l. byte (2 * j) ∙ split-value (fromPowerUp s a k rows outputs .outputs) j;
+      marks = λ j l. byte (2 * j + 1) ∙ split-mark (fromPowerUp s a k rows outputs .outputs) j;
+    }
+
+-- DOUBLING that is not refused
+doubled : (s buf : List ℕ) → doubleOf s buf .refusal ≡ none → doubleRefusal s buf ≡ none
+doubled s buf h = either-way (doubleRefusal s buf) (λ e. e) (λ r e. absurd (not-some (sym (rw (double-refused s buf r e) at h))))
+
+the-run : (s st d : List ℕ) (k : ℕ) (rows outputs outputs′ : List ℕ) → runRefusal s st k rows outputs ≡ none → length outputs′ ≡ k * sizesOf d .outputs
+    → Forall₂ (Again d) (accepted s st (run k rows outputs ∷ [])) (run k (split rows) outputs′ ∷ [])
+unfolding refusalOf accepted
+the-run s st d k rows outputs outputs′ h l = rw (accepted-none s st (run k rows outputs) [] h) (Forall₂·cons (run-again l) Forall₂·nil)
+
+pub doubled-shows : DoubledShows
+doubled-shows s buf w a a′ k rows rows′ outputs outputs′ f p p′ t l h =
+    let st = powerUpOf s a .state in
+    let g = doubled s buf w in
+    let n = double-none s buf .0 g in
+    let d = doubleOf s buf .buffer in
+    let r = run-taken s st k rows outputs h in
+    let o = run-none s st k rows outputs .0 r .2 in
+    let twice : k * (2 * sizesOf s .outputs) ≡ 2 * (k * sizesOf s .outputs) = omega arith in
+    let size : length outputs′ ≡ k * sizesOf d .outputs = rw (double-accepted s buf g, doubled-sizes s) (l ∙ ap (λ m. 2 * m) o ∙ sym twice) in
+    let again = demand2 s (check-none s .1 (n .0)) (n .1) buf (n .2) .paired a a′ (powered s a p .1) (powered d a′ p′ .1) in
+    rw (in-two rows rows′ t) (shows-run s d a a′ k rows outputs outputs′ f (again _ _ (the-run s st d k rows outputs outputs′ r size)) h)
