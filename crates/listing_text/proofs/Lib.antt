@@ -1,4 +1,5 @@
--- Laws of numbers in decimal, and of texts that are put one behind the other.
+-- Laws of numbers in decimal, and of texts that are put one behind the other; and the examples of lines.
 pub mod Decimal
 pub mod Putting
 pub mod Lengths
+pub mod Examples

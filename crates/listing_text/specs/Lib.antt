@@ -1,2 +1,4 @@
--- The lines of the listing.
+-- The lines of the listing, and examples of them as text.
+pub mod Ascii
 pub mod Lines
+pub mod Examples

@@ -7,26 +7,27 @@ use lib.ListN.{length}
 use lib.Seq.{sets}
 use Rattle.netlist.specs.declared.answer.Refusal.{Refusal}
 use Rattle.tracker.specs.Cycle.{Verdict, clear, flow}
+use Rattle.listing_text.specs.Ascii.{ascii}
 
 -- a space, and the end of a line
 abbrev pub space : List ℕ
-space = 32 ∷ []
+space = ascii " "
 
 abbrev pub newline : List ℕ
-newline = 10 ∷ []
+newline = ascii "\n"
 
--- the words clear, flow, end and refused
+-- the words of the lines
 abbrev pub clearWord : List ℕ
-clearWord = 99 ∷ 108 ∷ 101 ∷ 97 ∷ 114 ∷ []
+clearWord = ascii "clear"
 
 abbrev pub flowWord : List ℕ
-flowWord = 102 ∷ 108 ∷ 111 ∷ 119 ∷ []
+flowWord = ascii "flow"
 
 abbrev pub endWord : List ℕ
-endWord = 101 ∷ 110 ∷ 100 ∷ []
+endWord = ascii "end"
 
 abbrev pub refusedWord : List ℕ
-refusedWord = 114 ∷ 101 ∷ 102 ∷ 117 ∷ 115 ∷ 101 ∷ 100 ∷ []
+refusedWord = ascii "refused"
 
 -- the decimal digits of a number that has at most so many, the most significant first
 unfoldable pub digitsUpTo : (most : ℕ) → ℕ → List ℕ
@@ -47,7 +48,7 @@ digit b = 48 + b % 10
 
 -- O digits, each OUT's byte, or - if O is 0
 unfoldable pub outputDigits : List ℕ → List ℕ
-outputDigits [] = 45 ∷ []
+outputDigits [] = ascii "-"
 outputDigits (b ∷ bs) = map digit (b ∷ bs)
 
 -- clear, or flow with the net

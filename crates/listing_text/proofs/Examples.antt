@@ -1,0 +1,16 @@
+-- The examples of lines hold, by computation.
+use mathlib.Core.Path.{refl}
+use Rattle.listing_text.specs.Lines.{digitsUpTo, decimal, outputDigits, cycleLine, endLine, refusedLine}
+use Rattle.listing_text.specs.Examples.{LineExamples}
+
+pub line-examples : LineExamples
+unfolding digitsUpTo decimal outputDigits cycleLine endLine refusedLine
+line-examples =
+    record {
+      bytes = refl;
+      clear-line = refl;
+      flow-line = refl;
+      no-outputs = refl;
+      end-line = refl;
+      refused-line = refl;
+    }
