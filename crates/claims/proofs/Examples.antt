@@ -2,10 +2,11 @@
 use mathlib.Core.Path.{refl}
 use Rattle.gates.specs.Rules.{value, mark, byte, andMark, orMark, xorMark, muxMark, notByte, andByte, orByte, xorByte, muxByte, gateByte}
 use Rattle.netlist.specs.Image.{sizesOf, netAt, netsFrom, netsOf, count}
+use Rattle.netlist.specs.Counter.{counter}
 use Rattle.netlist.specs.Check.{netRefusal, netsRefusal, checkRefusal, badByte, badLength}
 use Rattle.tracker.specs.Cycle.{pinByte, netByte, past, walk, bytesOf, verdictFrom, outputsFrom, registers, clocked, cycleOf, cyclesOf, outputsOf, stateAfter, firstOf, firstFlow}
 use Rattle.tracker.specs.Calls.{start, starts, powerUpRefusal, powerUpOf, asRun, runRefusal, runOf}
-use Rattle.claims.specs.Examples.{counter, counted, Examples}
+use Rattle.claims.specs.Examples.{counted, Examples}
 
 -- what is computed with
 gating : Unit {0}

@@ -1,14 +1,15 @@
--- Document 01's example of a listing holds, by computation.
+-- The pages are what is listed, by computation.
 use mathlib.Core.Path.{refl}
 use Rattle.gates.specs.Rules.{value, mark, byte, andMark, notByte, andByte, gateByte}
 use Rattle.netlist.specs.Image.{sizesOf, netAt, netsFrom, netsOf, count}
+use Rattle.netlist.specs.Counter.{counter}
 use Rattle.netlist.specs.Check.{netRefusal, netsRefusal, checkRefusal, badByte, badLength}
 use Rattle.tracker.specs.Cycle.{pinByte, netByte, past, walk, bytesOf, verdictFrom, outputsFrom, registers, clocked, cycleOf, cyclesOf, outputsOf, stateAfter, firstOf, firstFlow}
 use Rattle.tracker.specs.Calls.{start, starts, asRun, runRefusal, runOf}
-use Rattle.listing_text.specs.Lines.{digitsUpTo, decimal, outputDigits, cycleLine, endLine}
+use Rattle.listing_text.specs.Lines.{digitsUpTo, decimal, outputDigits, cycleLine, endLine, refusedLine}
 use Rattle.listing_rows.specs.Rows.{rowsUpTo}
 use Rattle.listing.specs.Listing.{linesOf, listingText}
-use Rattle.listing.specs.Counter.{counter, CounterListing}
+use Rattle.listing.specs.Pages.{badNet, oneInput, oneConst, crossed, Pages}
 
 -- what is computed with
 checking : Unit {0}
@@ -20,9 +21,22 @@ unfolding value mark byte andMark notByte andByte gateByte pinByte netByte past 
 running = tt
 
 listing : Unit {0}
-unfolding digitsUpTo decimal outputDigits cycleLine endLine rowsUpTo linesOf listingText
+unfolding digitsUpTo decimal outputDigits cycleLine endLine refusedLine rowsUpTo linesOf listingText
 listing = tt
 
-pub counter-listing : CounterListing
-unfolding checking running listing counter
-counter-listing = refl
+images : Unit {0}
+unfolding counter badNet oneInput oneConst crossed
+images = tt
+
+pub pages : Pages
+unfolding checking running listing images
+pages =
+    record {
+      counter-page = refl;
+      refused-image = refl;
+      refused-net = refl;
+      no-outputs = refl;
+      no-inputs = refl;
+      short-row = refl;
+      bad-byte = refl;
+    }

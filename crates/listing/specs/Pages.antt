@@ -1,31 +1,52 @@
--- Document 01's example of a listing.
+-- Listings as the text that a reader sees: document 01's page of the counter, and pages of listings that are refused, have no outputs or have no inputs.
 use Prim.Native.Nat.{ℕ}
 use mathlib.Core.Path.{_≡_}
 use mathlib.Core.List.{List, [], _∷_, _++_}
-use Rattle.listing_text.specs.Lines.{space, newline, clearWord, flowWord, endWord}
+use Rattle.netlist.specs.Counter.{counter}
+use Rattle.listing_text.specs.Ascii.{ascii}
 use Rattle.listing.specs.Listing.{listingText}
 
--- the counter of 001's Figure 3: 0 INPUT; 1 REG(4, start 0); 2 NOT 1; 3 NOT 0; 4 AND(2, 3); 5 OUT 1, protected
-unfoldable pub counter : List ℕ
-counter =
-    (6 ∷ 0 ∷ 1 ∷ 0 ∷ 1 ∷ 0 ∷ 1 ∷ 0 ∷ [])
-    ++ (1 ∷ 2 ∷ 3 ∷ 3 ∷ 4 ∷ 8 ∷ [])
+-- 0 CONST 0; 1 CONST 0; 2 CONST 0; 3 NOT 3, whose pin is not below its net
+unfoldable pub badNet : List ℕ
+badNet =
+    (4 ∷ 0 ∷ 0 ∷ 0 ∷ 0 ∷ 0 ∷ 0 ∷ 0 ∷ [])
+    ++ (0 ∷ 0 ∷ 0 ∷ 3 ∷ [])
     ++ (0 ∷ 0 ∷ 0 ∷ 0 ∷ 0 ∷ 0 ∷ [])
-    ++ (4 ∷ 0 ∷ 0 ∷ 0 ∷ 0 ∷ 0 ∷ [])
+    ++ (0 ∷ 0 ∷ 0 ∷ 0 ∷ 0 ∷ 0 ∷ [])
+    ++ (0 ∷ 0 ∷ 0 ∷ 0 ∷ 0 ∷ 0 ∷ [])
+    ++ (3 ∷ 0 ∷ 0 ∷ 0 ∷ 0 ∷ 0 ∷ [])
+
+-- 0 INPUT, and no other net
+unfoldable pub oneInput : List ℕ
+oneInput = (1 ∷ 0 ∷ 1 ∷ 0 ∷ 0 ∷ 0 ∷ 0 ∷ 0 ∷ []) ++ (1 ∷ []) ++ (0 ∷ 0 ∷ 0 ∷ 0 ∷ 0 ∷ 0 ∷ [])
+
+-- 0 CONST 1, and no other net
+unfoldable pub oneConst : List ℕ
+oneConst = (1 ∷ 0 ∷ 0 ∷ 0 ∷ 0 ∷ 0 ∷ 0 ∷ 0 ∷ []) ++ (0 ∷ []) ++ (1 ∷ 0 ∷ 0 ∷ 0 ∷ 0 ∷ 0 ∷ [])
+
+-- 0 INPUT; 1 INPUT; 2 OUT 1, free; 3 OUT 0, free
+unfoldable pub crossed : List ℕ
+crossed =
+    (4 ∷ 0 ∷ 2 ∷ 0 ∷ 0 ∷ 0 ∷ 2 ∷ 0 ∷ [])
+    ++ (1 ∷ 1 ∷ 8 ∷ 8 ∷ [])
+    ++ (0 ∷ 0 ∷ 0 ∷ 0 ∷ 0 ∷ 0 ∷ [])
+    ++ (0 ∷ 0 ∷ 0 ∷ 0 ∷ 0 ∷ 0 ∷ [])
     ++ (1 ∷ 0 ∷ 0 ∷ 0 ∷ 0 ∷ 0 ∷ [])
     ++ (0 ∷ 0 ∷ 0 ∷ 0 ∷ 0 ∷ 0 ∷ [])
-    ++ (2 ∷ 0 ∷ 3 ∷ 0 ∷ 0 ∷ 0 ∷ [])
-    ++ (1 ∷ 0 ∷ 1 ∷ 0 ∷ 0 ∷ 0 ∷ [])
 
--- 0 0 clear; 1 3 flow 5; 2 2 flow 5; 3 0 clear; end 4
-abbrev pub page : List ℕ
-page =
-    ((48 ∷ []) ++ space ++ (48 ∷ []) ++ space ++ clearWord ++ newline)
-    ++ ((49 ∷ []) ++ space ++ (51 ∷ []) ++ space ++ flowWord ++ space ++ (53 ∷ []) ++ newline)
-    ++ ((50 ∷ []) ++ space ++ (50 ∷ []) ++ space ++ flowWord ++ space ++ (53 ∷ []) ++ newline)
-    ++ ((51 ∷ []) ++ space ++ (48 ∷ []) ++ space ++ clearWord ++ newline)
-    ++ (endWord ++ space ++ (52 ∷ []) ++ newline)
-
--- rows 2, 0, 1, 0 print that page
-abbrev pub CounterListing : Type 0
-CounterListing = listingText counter (2 ∷ 0 ∷ 1 ∷ 0 ∷ []) ≡ page
+-- proved as `pages`
+pub record Pages : Type 0 where
+  -- document 01's example: the counter, with rows 2, 0, 1, 0
+  pub counter-page : listingText counter (2 ∷ 0 ∷ 1 ∷ 0 ∷ []) ≡ ascii "0 0 clear\n1 3 flow 5\n2 2 flow 5\n3 0 clear\nend 4\n"
+  -- an image of 0 bytes is refused, and no row is taken
+  pub refused-image : listingText [] (2 ∷ 0 ∷ []) ≡ ascii "refused 1 0\n"
+  -- an image with a bad net 3 is refused: the number comes first, and then the net
+  pub refused-net : listingText badNet (2 ∷ 0 ∷ []) ≡ ascii "refused 5 3\n"
+  -- with O = 0 each line has a - for the outputs
+  pub no-outputs : listingText oneInput (1 ∷ 2 ∷ []) ≡ ascii "0 - clear\n1 - clear\nend 2\n"
+  -- with I = 0 the end is printed and nothing else, though the input has two bytes
+  pub no-inputs : listingText oneConst (1 ∷ 2 ∷ []) ≡ ascii "end 0\n"
+  -- the second row is short, with one byte for two inputs: the first has its line, and 12 is the last one
+  pub short-row : listingText crossed (1 ∷ 2 ∷ 0 ∷ []) ≡ ascii "0 21 clear\nrefused 12 0\n"
+  -- the second of three rows has a 4 at its place 1: the first has its line, and 13 with that place is the last one
+  pub bad-byte : listingText crossed (1 ∷ 2 ∷ 3 ∷ 4 ∷ 0 ∷ 0 ∷ []) ≡ ascii "0 21 clear\nrefused 13 1\n"
