@@ -9,7 +9,7 @@ use lib.Dec.{leb}
 use lib.ListN.{length, getD, set, drop, length-set, length-append}
 use lib.Seq.{sets, length-sets, drop-cons, drop-length}
 use borrow.Author.Tests.{leb-true, le-leb}
-use Rattle.listing_text.specs.Lines.{digit, outputDigits, put, did}
+use Rattle.listing_text.specs.Lines.{dash, digit, outputDigits, put, did}
 
 -- BYTE BY BYTE. The bytes f x, for each x of xs, are put into a buffer from place at on, and the first i of them stand: what is left, put behind them, gives the whole
 pub record Putting (f : ℕ → ℕ) (xs begin : List ℕ) (at : ℕ) (buffer : List ℕ) (i : ℕ) : Type 0 where
@@ -100,7 +100,7 @@ unfolding put
 put-fits d p line h = rw (le-leb (p + length line) (length d) h)
 
 -- OUTPUTS. No output is a -, and others are their digits
-pub no-outputs : (xs : List ℕ) → length xs ≡ 0 → outputDigits xs ≡ 45 ∷ []
+pub no-outputs : (xs : List ℕ) → length xs ≡ 0 → outputDigits xs ≡ dash
 unfolding outputDigits
 no-outputs [] h = refl
 no-outputs (x ∷ xs) h = absurd (omega arith)

@@ -9,9 +9,12 @@ use Rattle.netlist.specs.declared.answer.Refusal.{Refusal}
 use Rattle.tracker.specs.Cycle.{Verdict, clear, flow}
 use Rattle.listing_text.specs.Ascii.{ascii}
 
--- a space, and the end of a line
+-- a space, a dash, and the end of a line
 abbrev pub space : List ℕ
 space = ascii " "
+
+abbrev pub dash : List ℕ
+dash = ascii "-"
 
 abbrev pub newline : List ℕ
 newline = ascii "\n"
@@ -48,7 +51,7 @@ digit b = 48 + b % 10
 
 -- O digits, each OUT's byte, or - if O is 0
 unfoldable pub outputDigits : List ℕ → List ℕ
-outputDigits [] = ascii "-"
+outputDigits [] = dash
 outputDigits (b ∷ bs) = map digit (b ∷ bs)
 
 -- clear, or flow with the net
