@@ -10,9 +10,10 @@ pub mod Verdicts
 pub mod Steps
 pub mod History
 pub mod DoubledImage
+pub mod Groups
+pub mod Splitting
 pub mod Pairing
 pub mod TwoRun
 pub mod OneRun
 pub mod ClearRun
-pub mod Splitting
 pub mod DoubledRun

@@ -7,21 +7,23 @@ use mathlib.Core.Option.{Option, none, some}
 use lib.Dec.{ltb}
 use lib.ListN.{length, getD}
 use Rattle.gates.specs.Relations.{AgreeByte, same, low-high, high-low, Agree}
+use Rattle.gates.proofs.Meaning.{agree-means}
 use Rattle.netlist.specs.Image.{sizesOf, netsOf}
 use Rattle.netlist.specs.declared.answer.Refusal.{Refusal}
 use Rattle.netlist.specs.Check.{refuse, _then_, checkRefusal, badByte, badLength}
-use Rattle.netlist.proofs.Pairs.{pairs-refl, pairs-length, pairs-append, pairs-map, pairs-square}
+use Rattle.netlist.proofs.Pairs.{pairs-refl, pairs-getD, pairs-length, pairs-append, pairs-map, pairs-square}
 use Rattle.netlist.proofs.Checked.{Checked, check-none}
 use Rattle.tracker.specs.Cycle.{Cycle, firstOf, firstFlow}
 use Rattle.tracker.specs.Calls.{done, Stepped, powerUpOf, asStep, lentRefusal, stepRefusal, runRefusal}
 use Rattle.tracker.proofs.Cycles.{Related, outputs-length, agree-outputs, agree-cycle, agree-cycles, outputs-of-related, state-after-related}
 use Rattle.tracker.proofs.Calls.{step-none, run-none, starts-state, powered-up}
 use Rattle.doubling.specs.Doubled.{split}
-use Rattle.doubling.proofs.Simulation.{two-more}
+use Rattle.doubling.proofs.Simulation.{split-length}
 use Rattle.claims.specs.History.{Call, refusalOf, stepped, ran, callResult, history, cyclesIn, Finished}
 use Rattle.claims.specs.Pairing.{shown, Shows}
 use Rattle.claims.specs.TwoRun.{Matched, steps, runs, SameCycle, SameCall, turned-back, finished, SameCalls, SameShown, Demand3}
 use Rattle.claims.proofs.History.{turns-back, made-refused, made-step, made-run, made}
+use Rattle.claims.proofs.Splitting.{split-value, split-mark}
 use Rattle.claims.proofs.Pairing.{demand2}
 
 agree-refl : (xs : List ℕ) → Agree xs xs
@@ -125,31 +127,16 @@ powered-agree : {s : List ℕ} → Checked s → (a b : List ℕ) → length a �
 powered-agree {s} c a b l k = rw (powered-up s a c l, powered-up s b c k) (agree-refl _)
 
 -- THE DOUBLED IMAGE. Bytes that agree, split: the marks are equal, and the values where the mark is 0
-two-one-more : (j : ℕ) → 2 * suc j + 1 ≡ suc (suc (2 * j + 1))
-two-one-more j = omega arith
+at-place : {xs ys : List ℕ} (j : ℕ) → Agree xs ys → AgreeByte (getD xs j 0) (getD ys j 0)
+at-place j a = pairs-getD j 0 same a
 
 marks-split : {xs ys : List ℕ} (j : ℕ) → Agree xs ys → getD (split xs) (2 * j + 1) 0 ≡ getD (split ys) (2 * j + 1) 0
-unfolding split
-marks-split j Forall₂·nil = refl
-marks-split zero (Forall₂·cons same t) = refl
-marks-split zero (Forall₂·cons low-high t) = refl
-marks-split zero (Forall₂·cons high-low t) = refl
-marks-split (suc j) (Forall₂·cons h t) = rw (two-one-more j) (marks-split j t)
+marks-split {xs} {ys} j a = rw (split-mark xs j, split-mark ys j) (agree-means (at-place j a) .0)
 
 values-split : {xs ys : List ℕ} (j : ℕ) → Agree xs ys → getD (split xs) (2 * j + 1) 0 ≡ 0 → getD (split xs) (2 * j) 0 ≡ getD (split ys) (2 * j) 0
-unfolding split
-values-split j Forall₂·nil e = refl
-values-split zero (Forall₂·cons same t) e = refl
-values-split zero (Forall₂·cons low-high t) e = absurd (omega arith)
-values-split zero (Forall₂·cons high-low t) e = absurd (omega arith)
-values-split (suc j) (Forall₂·cons h t) e = rw (two-more j) (values-split j t (rw (two-one-more j) at e))
+values-split {xs} {ys} j a e = rw (split-value xs j, split-value ys j) (agree-means (at-place j a) .1 (rw (split-mark xs j) at e))
 
 -- two values for each output
-split-length : (xs : List ℕ) → length (split xs) ≡ 2 * length xs
-unfolding split
-split-length [] = refl
-split-length (x ∷ xs) = omega (arith, split-length xs)
-
 shown-length : {s : List ℕ} → Checked s → (d : List ℕ) (x u : Stepped) → Shows s d x u → length (shown d u) ≡ 2 * sizesOf s .outputs
 shown-length {s} c d x u p = rw (p .pairs, split-length, outputs-length, c .outputs)
 

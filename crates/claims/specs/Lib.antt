@@ -8,6 +8,7 @@ pub mod Verdicts
 pub mod Steps
 pub mod History
 pub mod DoubledImage
+pub mod Groups
 pub mod Pairing
 pub mod TwoRun
 pub mod OneRun

@@ -20,10 +20,10 @@ either x y {A} f g = by-test (eqb x y) refl
     by-test true e = f (eqb-true x y e)
     by-test false e = g (eqb-false x y e)
 
-agree-into : {x y : ℕ} → AgreeByte x y → (x / 2 ≡ y / 2) × (x / 2 ≡ 0 → x % 2 ≡ y % 2)
-agree-into same = (refl, λ h. refl)
-agree-into low-high = (refl, λ h. absurd (omega arith))
-agree-into high-low = (refl, λ h. absurd (omega arith))
+pub agree-means : {x y : ℕ} → AgreeByte x y → (x / 2 ≡ y / 2) × (x / 2 ≡ 0 → x % 2 ≡ y % 2)
+agree-means same = (refl, λ h. refl)
+agree-means low-high = (refl, λ h. absurd (omega arith))
+agree-means high-low = (refl, λ h. absurd (omega arith))
 
 agree-back : (x y : ℕ) → x ≤ 3 → y ≤ 3 → (x / 2 ≡ y / 2) → (x / 2 ≡ 0 → x % 2 ≡ y % 2) → AgreeByte x y
 agree-back x y l m marks values =
@@ -49,7 +49,7 @@ below-back x y l m values marks =
 pub relations-mean : RelationsMean
 relations-mean =
     record {
-      agree = λ x y l m. (agree-into, λ h. agree-back x y l m (h .0) (h .1));
+      agree = λ x y l m. (agree-means, λ h. agree-back x y l m (h .0) (h .1));
       below = λ x y l m. (below-into, λ h. below-back x y l m (h .0) (h .1));
     }
 
@@ -132,7 +132,7 @@ module _ (f : (a b c : ℕ) → ℕ) where
   exact agrees code t a b c h k l = (
     λ m. changes a b c h k l (rw (eq-eqb (f a b c / 2) 1 m) at (each-triple marked-changes t a b c h k l)),
     λ d.
-        let g = agree-into (agrees a _ b _ c _ (d .agree-a) (d .agree-b) (d .agree-c)) in
+        let g = agree-means (agrees a _ b _ c _ (d .agree-a) (d .agree-b) (d .agree-c)) in
         either (f a b c / 2) 0 (λ e. absurd (d .changed (sym (g .1 e)))) (λ n. omega (arith, code a a b b c c h k l)),
   )
 

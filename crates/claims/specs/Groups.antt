@@ -1,0 +1,49 @@
+-- The groups of the doubled netlist, computed for one net of each kind: what stands at each place of a group, and the order of the groups.
+use Prim.Native.Nat.{ℕ}
+use mathlib.Core.Path.{_≡_}
+use mathlib.Core.List.{List, [], _∷_, _++_}
+use Rattle.gates.specs.Kinds.{CONST, INPUT, REG, NOT, AND, OR, XOR, MUX, OUT}
+use Rattle.netlist.specs.declared.image.Net.{Net}
+use Rattle.netlist.specs.Image.{net}
+use Rattle.doubling.specs.Doubled.{doubledSize, doubledNets}
+
+-- 0 CONST 1; 1 INPUT; 2 REG(7, no start given); 3 NOT 1; 4 AND(1, 3); 5 OR(1, 4); 6 XOR(3, 5); 7 MUX(4, 5, 6); 8 OUT 7, protected
+unfoldable pub oneOfEach : List Net
+oneOfEach =
+    net CONST 1 0 0
+    ∷ net INPUT 0 0 0
+    ∷ net REG 7 2 0
+    ∷ net NOT 1 0 0
+    ∷ net AND 1 3 0
+    ∷ net OR 1 4 0
+    ∷ net XOR 3 5 0
+    ∷ net MUX 4 5 6
+    ∷ net OUT 7 1 0
+    ∷ []
+
+-- their value nets are 0, 2, 4, 6, 8, 14, 22, 24 and 31, and their mark nets 1, 3, 5, 7, 13, 21, 23, 30 and 32; each line below begins with the number of its first net
+unfoldable pub theirGroups : List Net
+theirGroups =
+    -- 0 CONST: CONST a; CONST 0
+    (net CONST 1 0 0 ∷ net CONST 0 0 0 ∷ [])
+    -- 2 INPUT: INPUT; INPUT
+    ++ (net INPUT 0 0 0 ∷ net INPUT 0 0 0 ∷ [])
+    -- 4 REG: REG on va with start b; REG on ta with start 0
+    ++ (net REG 24 2 0 ∷ net REG 30 0 0 ∷ [])
+    -- 6 NOT: NOT va; OR(ta, ta)
+    ++ (net NOT 2 0 0 ∷ net OR 3 3 0 ∷ [])
+    -- 8 AND: AND(va, vb); p = AND(ta, vb); q = AND(tb, va); r = AND(ta, tb); s = OR(p, q); OR(s, r)
+    ++ (net AND 2 6 0 ∷ net AND 3 6 0 ∷ net AND 7 2 0 ∷ net AND 3 7 0 ∷ net OR 9 10 0 ∷ net OR 12 11 0 ∷ [])
+    -- 14 OR: OR(va, vb); m = NOT va; n = NOT vb; p = AND(ta, n); q = AND(tb, m); r = AND(ta, tb); s = OR(p, q); OR(s, r)
+    ++ (net OR 2 8 0 ∷ net NOT 2 0 0 ∷ net NOT 8 0 0 ∷ net AND 3 16 0 ∷ net AND 13 15 0 ∷ net AND 3 13 0 ∷ net OR 17 18 0 ∷ net OR 20 19 0 ∷ [])
+    -- 22 XOR: XOR(va, vb); OR(ta, tb)
+    ++ (net XOR 6 14 0 ∷ net OR 7 21 0 ∷ [])
+    -- 24 MUX: MUX(va, vb, vc); p = OR(va, vb); q = OR(ta, tb); r = OR(p, q); w = AND(tc, r); z = MUX(ta, tb, vc); OR(w, z)
+    ++ (net MUX 8 14 22 ∷ net OR 8 14 0 ∷ net OR 13 21 0 ∷ net OR 25 26 0 ∷ net AND 23 27 0 ∷ net MUX 13 21 22 ∷ net OR 28 29 0 ∷ [])
+    -- 31 OUT: OUT va, free; OUT ta, free
+    ++ (net OUT 24 0 0 ∷ net OUT 30 0 0 ∷ [])
+
+-- proved as `groups`
+pub record Groups : Type 0 where
+  pub nets : doubledNets oneOfEach ≡ theirGroups
+  pub size : doubledSize oneOfEach ≡ 33
