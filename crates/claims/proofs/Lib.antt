@@ -17,3 +17,4 @@ pub mod TwoRun
 pub mod OneRun
 pub mod ClearRun
 pub mod DoubledRun
+pub mod Promised

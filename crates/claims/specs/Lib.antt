@@ -12,3 +12,4 @@ pub mod Groups
 pub mod Pairing
 pub mod TwoRun
 pub mod OneRun
+pub mod Promised

@@ -1,0 +1,51 @@
+-- All theorems, in one record.
+use Rattle.gates.proofs.Laws
+use Rattle.gates.proofs.Composed
+use Rattle.gates.proofs.Meaning
+use Rattle.claims.specs.Promised.{Promised}
+use Rattle.claims.proofs.Examples
+use Rattle.claims.proofs.Accepted
+use Rattle.claims.proofs.Refused
+use Rattle.claims.proofs.Unchanged
+use Rattle.claims.proofs.NetBytes
+use Rattle.claims.proofs.PowerUp
+use Rattle.claims.proofs.Verdicts
+use Rattle.claims.proofs.Steps
+use Rattle.claims.proofs.History
+use Rattle.claims.proofs.DoubledImage
+use Rattle.claims.proofs.Groups
+use Rattle.claims.proofs.Pairing
+use Rattle.claims.proofs.TwoRun
+use Rattle.claims.proofs.ClearRun
+use Rattle.claims.proofs.DoubledRun
+
+pub promised : Promised
+promised =
+    record {
+      clear-stays = ClearRun.clear-stays;
+      doubled-shows = DoubledRun.doubled-shows;
+      when-accepted = Accepted.when-accepted;
+      refusals = Refused.refusals;
+      unchanged = Unchanged.unchanged;
+      gate-values = Meaning.gate-values;
+      marks-exact = Meaning.marks-exact;
+      mux-composed = Composed.mux-composed;
+      gates-monotone = Laws.gates-monotone;
+      examples = Examples.examples;
+      power-up-starts = PowerUp.power-up-starts;
+      net-bytes = NetBytes.net-bytes;
+      ruled-bytes = NetBytes.ruled-bytes;
+      verdicts = Verdicts.verdicts;
+      first-flows = Verdicts.first-flows;
+      run-is-steps = Steps.run-is-steps;
+      histories = History.histories;
+      demand2 = Pairing.demand2;
+      doubled-checks = DoubledImage.doubled-checks;
+      doubling-writes = DoubledImage.doubling-writes;
+      doubled-reads = DoubledImage.doubled-reads;
+      doubled-placed = DoubledImage.doubled-placed;
+      doubled-unseen = DoubledImage.doubled-unseen;
+      groups = Groups.groups;
+      demand3 = TwoRun.demand3;
+      relations-mean = Meaning.relations-mean;
+    }

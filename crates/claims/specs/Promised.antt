@@ -1,0 +1,75 @@
+-- All that is promised of the calls, as one record: read this first. Above each field stands what it means for a user; the statement itself is in the file that its
+-- `use` line names. That the code does what these statements speak of (`checkRefusal`, `powerUpOf`, `stepOf`, `runOf`, `doubleOf`) is the contract of each call, in
+-- src/ of its crate. The record is proved as `promised`, and used by the crate `exports`, field by field.
+use Rattle.gates.specs.Meaning.{GateValues, MarksExact, MuxComposed, GatesMonotone, RelationsMean}
+use Rattle.claims.specs.Examples.{Examples}
+use Rattle.claims.specs.Accepted.{Accepted}
+use Rattle.claims.specs.Refused.{Refusals}
+use Rattle.claims.specs.Unchanged.{Unchanged}
+use Rattle.claims.specs.NetBytes.{NetBytesAll, RuledBytesAll}
+use Rattle.claims.specs.PowerUp.{PowerUpStarts}
+use Rattle.claims.specs.Verdicts.{Verdicts, FirstFlows}
+use Rattle.claims.specs.Steps.{RunIsSteps}
+use Rattle.claims.specs.History.{Histories}
+use Rattle.claims.specs.DoubledImage.{DoubledChecks, DoublingWrites, DoubledReadsAll, DoubledPlaced, DoubledUnseen}
+use Rattle.claims.specs.Groups.{Groups}
+use Rattle.claims.specs.Pairing.{Demand2}
+use Rattle.claims.specs.TwoRun.{Demand3}
+use Rattle.claims.specs.OneRun.{ClearStays, DoubledShows}
+
+pub record Promised : Type 0 where
+  -- FIRST, what most users lean on. A run from power-up that is clear stays clear, and shows the same bytes at its protected OUTs, whatever the untrusted pins do.
+  pub clear-stays : ClearStays
+  -- A run of the doubled netlist shows, as plain values, the values and marks of the run on its source.
+  pub doubled-shows : DoubledShows
+
+  -- DEMAND 1, refusals. A call is accepted exactly if the image and everything that is lent are as document 01 asks.
+  pub when-accepted : Accepted
+  -- Otherwise its refusal has the number and the place of the first condition that applies, and no other.
+  pub refusals : Refusals
+  -- A call that is refused changes no byte that it was lent.
+  pub unchanged : Unchanged
+
+  -- DEMAND 2, values and marks. The gates' values are those of arithmetic.
+  pub gate-values : GateValues
+  -- NOT, AND, OR and XOR are marked exactly where other values of their marked pins would change their value.
+  pub marks-exact : MarksExact
+  -- A MUX is the NOT, two ANDs and OR that the GLIFT paper composes it of.
+  pub mux-composed : MuxComposed
+  -- A pin with a mark more never takes the mark of a gate away.
+  pub gates-monotone : GatesMonotone
+  -- Document 01's examples C1 to C12 come out as it says.
+  pub examples : Examples
+  -- Power-up gives each register its start, whatever the state held before.
+  pub power-up-starts : PowerUpStarts
+  -- In every cycle each net has the byte of its kind, and after the clock each register the byte of its net.
+  pub net-bytes : NetBytesAll
+  -- No other bytes are such, so that the bytes of a cycle can be checked net by net.
+  pub ruled-bytes : RuledBytesAll
+  -- The verdict of a cycle is the lowest protected OUT that is marked, or clear where there is none.
+  pub verdicts : Verdicts
+  -- A run answers with its first cycle that has a flow, or clear where no cycle has one.
+  pub first-flows : FirstFlows
+  -- A run gives what its steps give, one for each cycle.
+  pub run-is-steps : RunIsSteps
+  -- Over a list of calls, each call works on the state that the one before it left, refused calls included.
+  pub histories : Histories
+  -- The doubled netlist shows the same values and marks as its source, in every cycle of every list of calls.
+  pub demand2 : Demand2
+  -- The image that doubling writes passes checking, so that refusal 17 is never given.
+  pub doubled-checks : DoubledChecks
+  -- Doubling that is accepted writes the doubled image and nothing else.
+  pub doubling-writes : DoublingWrites
+  -- What is read from that image is the doubled netlist.
+  pub doubled-reads : DoubledReadsAll
+  -- Its groups stand in net order without a gap, each with the length that document 01 gives its kind.
+  pub doubled-placed : DoubledPlaced
+  -- Its OUTs are free and its registers' starts are those of document 01, which no run on plain rows shows.
+  pub doubled-unseen : DoubledUnseen
+  -- The group of each kind has the nets that document 01 gives it, in that order.
+  pub groups : Groups
+
+  -- DEMAND 3, two runs. Two lists of calls that differ in the values of marked pins alone give the same refusals, verdicts, marks and unmarked values.
+  pub demand3 : Demand3
+  -- "Agree", by which that is said, means equal marks, and equal values where the mark is 0.
+  pub relations-mean : RelationsMean
