@@ -1,9 +1,10 @@
--- The theorems. In `Examples`: examples. In `Gates`: mux-composed, gates-monotone. In `Accepted`: when-accepted. In `Unchanged`: unchanged.
--- In `NetBytes`: net-bytes, ruled-bytes. In `Verdicts`: verdicts, first-flows. In `Steps`: run-is-steps.
--- In `DoubledImage`: doubled-checks, doubling-writes, doubled-reads, doubled-placed, doubled-unseen. In `Pairing`: demand2. In `TwoRun`: demand3.
+-- The theorems, all of which stand in `Promised`, and the laws that they rest on.
+pub mod Reading
 pub mod Examples
 pub mod Accepted
+pub mod InTurn
 pub mod Unchanged
+pub mod Refused
 pub mod NetBytes
 pub mod PowerUp
 pub mod Verdicts

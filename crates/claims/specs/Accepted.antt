@@ -1,23 +1,71 @@
--- When a call is accepted: exactly if checking accepts its image, and K, the state, the rows and the buffer have the lengths and bytes that 9 to 16 ask for.
--- Which images checking accepts is said by `checkRefusal`; numbers, places and the order of refusals are not said here.
+-- When a call is accepted: exactly if its image is as document 01's "The image" asks, and K, the state, the rows and the buffer have the lengths and bytes that 9 to 16 ask for.
+-- Which refusal is given otherwise is Refused. The kinds are 0 CONST, 1 INPUT, 2 REG, 3 NOT, 4 AND, 5 OR, 6 XOR, 7 MUX, 8 OUT.
 use Prim.Native.Nat.{ℕ, _+_, _*_, _≤_, _<_}
 use mathlib.Core.Logic.{_↔_}
 use mathlib.Core.Path.{_≡_}
 use mathlib.Core.List.{List}
 use mathlib.Core.Option.{none}
 use lib.ListN.{length, getD}
-use Rattle.netlist.specs.Image.{sizesOf, netsOf}
+use Rattle.netlist.specs.declared.image.Net.{Net}
+use Rattle.netlist.specs.Image.{sizesOf, netsOf, count}
 use Rattle.netlist.specs.Check.{checkRefusal}
 use Rattle.tracker.specs.Calls.{powerUpRefusal, stepRefusal, runRefusal}
 use Rattle.doubling.specs.Doubled.{doubledSize, doubleRefusal}
+use Rattle.claims.specs.Reading.{netOf}
+
+-- 1 to 3 do not apply
+pub record Sized (s : List ℕ) : Type 0 where
+  pub some-nets : 1 ≤ sizesOf s .nets
+  pub few-nets : sizesOf s .nets ≤ 8192
+  pub exact : length s ≡ 8 + 7 * sizesOf s .nets
+
+-- 5 does not apply to x as net i of n: the pin of a REG is below n; the pins of kinds 3 to 8 are below i, where kinds 4 to 7 have b and kind 7 has c
+pub record PinsBelow (n i : ℕ) (x : Net) : Type 0 where
+  pub reg : x .kind ≡ 2 → x .a < n
+  pub a : 3 ≤ x .kind → x .kind ≤ 8 → x .a < i
+  pub b : 4 ≤ x .kind → x .kind ≤ 7 → x .b < i
+  pub c : x .kind ≡ 7 → x .c < i
+
+-- 6 does not apply: a CONST is 0 or 1, a start 0 to 2, a policy 0 or 1
+pub record ValuesListed (x : Net) : Type 0 where
+  pub const : x .kind ≡ 0 → x .a ≤ 1
+  pub start : x .kind ≡ 2 → x .b ≤ 2
+  pub policy : x .kind ≡ 8 → x .b ≤ 1
+
+-- 7 does not apply: an INPUT lists no operand, a CONST and a NOT only a, and no kind but 7 lists c
+pub record UnlistedZero (x : Net) : Type 0 where
+  pub input-a : x .kind ≡ 1 → x .a ≡ 0
+  pub input-b : x .kind ≡ 1 → x .b ≡ 0
+  pub const-b : x .kind ≡ 0 → x .b ≡ 0
+  pub not-b : x .kind ≡ 3 → x .b ≡ 0
+  pub c : (x .kind ≡ 7 → ⊥) → x .c ≡ 0
+
+-- 4 to 7 do not apply
+pub record AcceptedNet (n i : ℕ) (x : Net) : Type 0 where
+  pub kind : x .kind ≤ 8
+  pub pins : PinsBelow n i x
+  pub values : ValuesListed x
+  pub unlisted : UnlistedZero x
+
+-- 4 to 7 do not apply to any of the first k nets
+abbrev pub NetsAccepted : (s : List ℕ) (k : ℕ) → Type 0
+NetsAccepted s k = (i : ℕ) → i < k → AcceptedNet (sizesOf s .nets) i (netOf s i)
+
+-- 8 does not apply: I, R and O are the numbers of nets of kinds 1, 2 and 8
+pub record RightCounts (s : List ℕ) : Type 0 where
+  pub inputs : sizesOf s .inputs ≡ count 1 (netsOf s)
+  pub registers : sizesOf s .registers ≡ count 2 (netsOf s)
+  pub outputs : sizesOf s .outputs ≡ count 8 (netsOf s)
+
+-- none of 1 to 8 applies
+pub record AcceptedImage (s : List ℕ) : Type 0 where
+  pub sized : Sized s
+  pub nets : NetsAccepted s (sizesOf s .nets)
+  pub counts : RightCounts s
 
 -- no byte is above 3
 abbrev pub Codes : List ℕ → Type 0
 Codes xs = (i : ℕ) → i < length xs → getD xs i 0 ≤ 3
-
--- none of 1 to 8 applies
-abbrev pub AcceptedImage : List ℕ → Type 0
-AcceptedImage s = checkRefusal s ≡ none
 
 -- neither 10 nor 11 applies
 pub record AcceptedState (s st : List ℕ) : Type 0 where
@@ -31,6 +79,7 @@ pub record AcceptedRows (n : ℕ) (rows : List ℕ) : Type 0 where
 
 -- proved as `when-accepted`
 pub record Accepted : Type 0 where
+  pub check : (s : List ℕ) → (checkRefusal s ≡ none) ↔ AcceptedImage s
   pub power-up : (s st : List ℕ) → (powerUpRefusal s st ≡ none) ↔ (AcceptedImage s × (length st ≡ sizesOf s .registers))
   pub step : (s st row nets : List ℕ)
       → (stepRefusal s st row nets ≡ none) ↔ (AcceptedImage s × AcceptedState s st × AcceptedRows (sizesOf s .inputs) row × (length nets ≡ sizesOf s .nets))

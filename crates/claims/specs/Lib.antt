@@ -1,6 +1,8 @@
--- What is claimed of gates, cycles, calls and the doubled netlist together.
+-- What is claimed of gates, cycles, calls and the doubled netlist together. `Promised` names it all.
+pub mod Reading
 pub mod Examples
 pub mod Accepted
+pub mod Refused
 pub mod Unchanged
 pub mod NetBytes
 pub mod PowerUp

@@ -10,10 +10,7 @@ use Rattle.netlist.specs.declared.image.Net.{Net}
 use Rattle.netlist.specs.Image.{sizesOf, net, netsOf, count}
 use Rattle.netlist.specs.Check.{checkRefusal}
 use Rattle.tracker.specs.Cycle.{Cycle, cycleOf}
-
--- net i of an image
-abbrev pub netOf : List ℕ → (i : ℕ) → Net
-netOf s i = getD (netsOf s) i (net 0 0 0 0)
+pub use Rattle.claims.specs.Reading.{netOf}
 
 -- "Inputs, registers and outputs are each counted in net order": the place of net i among the nets of its kind k is how many of them stand before it
 abbrev pub placeOf : (k : ℕ) (s : List ℕ) (i : ℕ) → ℕ

@@ -1,0 +1,240 @@
+-- Which refusal each call gives: every line of a chain both ways, then the chains, then the calls.
+use Prim.Native.Nat.{ℕ, _+_, _*_, _≤_}
+use native.Mathlib.Omega.{arith}
+use mathlib.Core.Logic.{_↔_}
+use mathlib.Core.Path.{_≡_, refl, ap, sym, _∙_}
+use mathlib.Core.List.{List}
+use mathlib.Core.Option.{Option, none, some}
+use mathlib.Core.Bool.{Bool, true, false, _||_, not}
+use lib.Dec.{eqb, ltb}
+use lib.ListN.{length, getD}
+use borrow.Author.Tests.{ltb-true, eqb-true, lt-ltb, le-ltb, eq-eqb, ne-eqb}
+use Rattle.netlist.specs.declared.image.Net.{Net}
+use Rattle.netlist.specs.Image.{sizesOf, net, netsOf}
+use Rattle.netlist.specs.declared.answer.Refusal.{Refusal}
+use Rattle.netlist.specs.Check.{refusal, refuse, _then_, badPin, badValue, badUnlisted, wrongCounts, netRefusal, netsRefusal, checkRefusal, badByte, badLength}
+use Rattle.netlist.proofs.Refusals.{refuse-none, not-above, not-other, byte-none, length-none, accepted}
+use Rattle.netlist.proofs.Checked.{length-nets}
+use Rattle.tracker.specs.Calls.{refused, lentRefusal, powerUpRefusal, powerUpOf, stepRefusal, stepOf, asStep, runRefusal, runOf, asRun}
+use Rattle.tracker.proofs.Calls.{power-up-accepted, power-up-refused, step-accepted, step-refused, run-accepted, run-refused}
+use Rattle.doubling.specs.Doubled.{doubledSize, doubleRefusal, doubleOf}
+use Rattle.doubling.proofs.Checks.{double-accepted, double-refused}
+use Rattle.claims.specs.Accepted.{Sized, Codes, AcceptedImage, AcceptedState}
+use Rattle.claims.specs.Refused.{AnyCall, check, power-up, step, run, double, Gives, BadNet, kind, pin, value, unlisted, BadImage, short, no-nets, many-nets, inexact, bad-net, miscounted, FirstAbove3, BadLent, state-size, state-byte, row-size, row-byte, buffer-size, Refused, bad-image, bad-state, bad-step, many-cycles, bad-run, doubled-large, doubled-size, Refusals}
+use Rattle.claims.proofs.InTurn.{InTurn, given-first, first-given}
+use Rattle.claims.proofs.Accepted as accept
+use Rattle.claims.proofs.Unchanged.{not-refused, not-some}
+
+-- FROM A CHAIN TO ITS TABLE: what the chain o gives is among P
+record Tells (o : Option Refusal) (P : ℕ → ℕ → Type 0) : Type 0 where
+  given : {r : Refusal} → o ≡ some r → P (r .number) (r .place)
+
+same : {q r : Refusal} → some q ≡ some r → q ≡ r
+same h = cc
+
+clash : {b : Bool} → b ≡ true → b ≡ false → ⊥
+clash h e = let z : _≡_ {A = ℕ} 0 1 = cc in omega arith
+
+line : {P : ℕ → ℕ → Type 0} (c : Bool) (number place : ℕ) → (c ≡ true → P number place) → Tells (refuse c number place) P
+line true number place h = record { given = λ e. rw (← same e) (h refl) }
+line false number place h = record { given = λ e. absurd (not-some e) }
+
+one-then : {o q : Option Refusal} {P : ℕ → ℕ → Type 0} → Tells o P → (o ≡ none → Tells q P) → Tells (o then q) P
+one-then {o = none} t u = u refl
+one-then {o = some r} t u = t
+
+length-tells : {P : ℕ → ℕ → Type 0} (number n : ℕ) (xs : List ℕ) → ((length xs ≡ n → ⊥) → P number 0) → Tells (badLength number n xs) P
+unfolding badLength
+length-tells number n xs h = line (not (eqb (length xs) n)) number 0 (λ e. h (λ l. clash e (not-other _ _ .1 l)))
+
+bytes-in-turn : (number : ℕ) → InTurn (λ i x. refuse (ltb 3 x) number i) (badByte number)
+unfolding badByte
+bytes-in-turn number = record { at-end = λ i. refl; next = λ i x xs. refl }
+
+bytes-tell : {P : ℕ → ℕ → Type 0} (number : ℕ) (xs : List ℕ) → ((i : ℕ) → FirstAbove3 xs i → P number i) → Tells (badByte number 0 xs) P
+bytes-tell {P} number xs h =
+    record {
+      given = λ e.
+          let w = first-given 0 (bytes-in-turn number) xs e in
+          line {P = P} (ltb 3 (getD xs (w .0) 0)) number (w .0)
+          (λ t. h (w .0) (record { below = w .1 .below; above = ltb-true _ _ t; first = λ j l. simp (refuse-none, not-above) at (w .1 .before j l) }))
+          .given (w .1 .here);
+    }
+
+net-tells : (n i : ℕ) (x : Net) → Tells (netRefusal n i x) (λ number place. BadNet n i x number × (place ≡ i))
+unfolding netRefusal
+net-tells n i x =
+    one-then (line (ltb 8 (x .kind)) 4 i (λ e. (kind (ltb-true _ _ e), refl)))
+    (λ a. let k = simp (refuse-none, not-above) at a in
+    one-then (line (badPin n i x) 5 i (λ e. (pin k (λ p. clash e (accept.pins n i x .1 p)), refl)))
+    (λ b. let p = accept.pins n i x .0 (refuse-none _ 5 i .0 b) in
+    one-then (line (badValue x) 6 i (λ e. (value k p (λ v. clash e (accept.values n i x .1 v)), refl)))
+    (λ c. let v = accept.values n i x .0 (refuse-none _ 6 i .0 c) in
+    line (badUnlisted x) 7 i (λ e. (unlisted k p v (λ u. clash e (accept.unlisted n i x .1 u)), refl)))))
+
+nets-tell : {s : List ℕ} → Sized s → Tells (netsRefusal (sizesOf s .nets) 0 (netsOf s)) (BadImage s)
+nets-tell {s} z =
+    record {
+      given = λ e.
+          let w = first-given (net 0 0 0 0) (accept.in-turn (sizesOf s .nets)) (netsOf s) e in
+          let t = net-tells _ _ _ .given (w .1 .here) in
+          rw (t .1) (bad-net {i = w .0} z (omega (arith, length-nets s, w .1 .below)) (λ j l. accept.net _ _ _ .0 (w .1 .before j l)) (t .0));
+    }
+
+size-tells : {s : List ℕ} → 8 ≤ length s → (eqb (sizesOf s .nets) 0 || ltb 8192 (sizesOf s .nets)) ≡ true → BadImage s 2 0
+size-tells {s} h e = one (eqb (sizesOf s .nets) 0) refl e
+  where
+    one : (b : Bool) → eqb (sizesOf s .nets) 0 ≡ b → (b || ltb 8192 (sizesOf s .nets)) ≡ true → BadImage s 2 0
+    one true z e = no-nets h (eqb-true _ _ z)
+    one false z e = many-nets h (ltb-true _ _ e)
+
+image-tells : (s : List ℕ) → Tells (checkRefusal s) (BadImage s)
+unfolding checkRefusal
+image-tells s =
+    one-then (line (ltb (length s) 8) 1 0 (λ e. short (ltb-true _ _ e)))
+    (λ a. let l = simp accepted at a in
+    one-then (line (eqb (sizesOf s .nets) 0 || ltb 8192 (sizesOf s .nets)) 2 0 (size-tells l))
+    (λ b. let n = simp accepted at b in
+    let some-nets : 1 ≤ sizesOf s .nets = omega (arith, n .0) in
+    one-then (line (not (eqb (length s) (8 + 7 * sizesOf s .nets))) 3 0 (λ e. inexact l some-nets (n .1) (λ x. clash e (not-other _ _ .1 x))))
+    (λ c. let z : Sized s = record { some-nets = some-nets; few-nets = n .1; exact = simp accepted at c } in
+    one-then (nets-tell z)
+    (λ d. line (wrongCounts s) 8 0 (λ e. miscounted z (accept.nets s .0 d) (λ x. clash e (accept.counts s .1 x)))))))
+
+lent-tells : {s : List ℕ} {rowBytes filled : ℕ} (st rows buffer : List ℕ)
+    → Tells (lentRefusal (sizesOf s .registers) rowBytes filled st rows buffer) (BadLent s rowBytes filled st rows buffer)
+lent-tells {s} {rowBytes} {filled} st rows buffer =
+    one-then (length-tells 10 (sizesOf s .registers) st state-size)
+    (λ a. let l = length-none _ _ st .0 a in
+    one-then (bytes-tell 11 st (λ i. state-byte l))
+    (λ b. let q : AcceptedState s st = record { size = l; codes = accept.each (byte-none _ _ st .0 b) } in
+    one-then (length-tells 12 rowBytes rows (row-size q))
+    (λ c. let m = length-none _ _ rows .0 c in
+    one-then (bytes-tell 13 rows (λ i. row-byte q m))
+    (λ d. length-tells 14 filled buffer (buffer-size q (record { size = m; codes = accept.each (byte-none _ _ rows .0 d) }))))))
+
+-- FROM THE TABLE TO ITS CHAIN
+length-drawn : (number n : ℕ) (xs : List ℕ) → (length xs ≡ n → ⊥) → badLength number n xs ≡ some (refusal number 0)
+unfolding badLength
+length-drawn number n xs h = rw (ne-eqb (length xs) n h)
+
+byte-drawn : (number : ℕ) (xs : List ℕ) {i : ℕ} → FirstAbove3 xs i → badByte number 0 xs ≡ some (refusal number i)
+byte-drawn number xs {i} w =
+    given-first 0 (bytes-in-turn number) xs i
+    (record { below = w .below; before = λ k l. rw (le-ltb 3 (getD xs k 0) (w .first k l)); here = rw (lt-ltb 3 (getD xs i 0) (w .above)) })
+
+no-byte : (number : ℕ) (xs : List ℕ) → Codes xs → badByte number 0 xs ≡ none
+no-byte number xs h = byte-none number 0 xs .1 (accept.together xs h)
+
+-- what is not false is true
+so : {b : Bool} {A : Type 0} → (b ≡ false) ↔ A → (A → ⊥) → b ≡ true
+so {b = true} e h = refl
+so {b = false} e h = absurd (h (e .0 refl))
+
+net-drawn : {n i : ℕ} {x : Net} {number : ℕ} → BadNet n i x number → netRefusal n i x ≡ some (refusal number i)
+unfolding netRefusal
+net-drawn {n} {i} {x} (kind h) = rw (lt-ltb 8 (x .kind) h)
+net-drawn {n} {i} {x} (pin k h) = rw (le-ltb 8 (x .kind) k, so (accept.pins n i x) h)
+net-drawn {n} {i} {x} (value k p h) = rw (le-ltb 8 (x .kind) k, accept.pins n i x .1 p, so (accept.values n i x) h)
+net-drawn {n} {i} {x} (unlisted k p v h) = rw (le-ltb 8 (x .kind) k, accept.pins n i x .1 p, accept.values n i x .1 v, so (accept.unlisted n i x) h)
+
+-- past 1 to 3
+past-sizes : {s : List ℕ} → Sized s → checkRefusal s ≡ (netsRefusal (sizesOf s .nets) 0 (netsOf s) then refuse (wrongCounts s) 8 0)
+unfolding checkRefusal
+past-sizes {s} z =
+    rw (
+      le-ltb (length s) 8 (omega (arith, z .exact, z .some-nets)),
+      ne-eqb (sizesOf s .nets) 0 (λ e. omega (arith, z .some-nets)),
+      le-ltb 8192 (sizesOf s .nets) (z .few-nets),
+      eq-eqb (length s) (8 + 7 * sizesOf s .nets) (z .exact),
+    )
+
+image-drawn : {s : List ℕ} {number place : ℕ} → BadImage s number place → checkRefusal s ≡ some (refusal number place)
+unfolding checkRefusal
+image-drawn {s} (short h) = rw (lt-ltb (length s) 8 h)
+image-drawn {s} (no-nets h e) = rw (le-ltb (length s) 8 h, e)
+image-drawn {s} (many-nets h l) = rw (le-ltb (length s) 8 h, ne-eqb (sizesOf s .nets) 0 (λ e. omega arith), lt-ltb 8192 (sizesOf s .nets) l)
+image-drawn {s} (inexact h l m e) =
+    rw (le-ltb (length s) 8 h, ne-eqb (sizesOf s .nets) 0 (λ e. omega arith), le-ltb 8192 (sizesOf s .nets) m, ne-eqb (length s) (8 + 7 * sizesOf s .nets) e)
+image-drawn {s} (bad-net {i = i} z l before b) =
+    past-sizes z
+    ∙ rw (given-first (net 0 0 0 0) (accept.in-turn (sizesOf s .nets)) (netsOf s) i
+    (record { below = omega (arith, length-nets s); before = λ k m. accept.net _ _ _ .1 (before k m); here = net-drawn b }))
+image-drawn {s} (miscounted z nets h) = past-sizes z ∙ rw (accept.nets s .1 nets, so (accept.counts s) h)
+
+lent-drawn : {s : List ℕ} {rowBytes filled : ℕ} {st rows buffer : List ℕ} {number place : ℕ} → BadLent s rowBytes filled st rows buffer number place
+    → lentRefusal (sizesOf s .registers) rowBytes filled st rows buffer ≡ some (refusal number place)
+lent-drawn {st = st} (state-size h) = rw (length-drawn 10 _ st h)
+lent-drawn {st = st} (state-byte l w) = rw (length-none 10 _ st .1 l, byte-drawn 11 st w)
+lent-drawn {st = st} {rows} (row-size q h) = rw (length-none 10 _ st .1 (q .size), no-byte 11 st (q .codes), length-drawn 12 _ rows h)
+lent-drawn {st = st} {rows} (row-byte q l w) = rw (length-none 10 _ st .1 (q .size), no-byte 11 st (q .codes), length-none 12 _ rows .1 l, byte-drawn 13 rows w)
+lent-drawn {st = st} {rows} {buffer} (buffer-size q r h) =
+    rw (
+      length-none 10 _ st .1 (q .size),
+      no-byte 11 st (q .codes),
+      length-none 12 _ rows .1 (r .size),
+      no-byte 13 rows (r .codes),
+      length-drawn 14 _ buffer h,
+    )
+
+-- THE CALLS: what a call is tried for behind 1 to 8
+abbrev behind : (s : List ℕ) → AnyCall → Option Refusal
+behind s check = none
+behind s (power-up st) = badLength 10 (sizesOf s .registers) st
+behind s (step st row nets) = lentRefusal (sizesOf s .registers) (sizesOf s .inputs) (sizesOf s .nets) st row nets
+behind s (run st k rows outputs) =
+    refuse (ltb 4096 k) 9 0 then lentRefusal (sizesOf s .registers) (k * sizesOf s .inputs) (k * sizesOf s .outputs) st rows outputs
+behind s (double buf) = refuse (ltb 8192 (doubledSize (netsOf s))) 15 0 then badLength 16 (8 + 7 * doubledSize (netsOf s)) buf
+
+behind-tells : (s : List ℕ) (c : AnyCall) → AcceptedImage s → Tells (behind s c) (Refused s c)
+behind-tells s check a = record { given = λ e. absurd (not-some e) }
+behind-tells s (power-up st) a = length-tells 10 (sizesOf s .registers) st (bad-state a)
+behind-tells s (step st row nets) a = record { given = λ e. bad-step a (lent-tells st row nets .given e) }
+behind-tells s (run st k rows outputs) a =
+    one-then (line (ltb 4096 k) 9 0 (λ e. many-cycles a (ltb-true _ _ e)))
+    (λ b. record { given = λ e. bad-run a (simp accepted at b) (lent-tells st rows outputs .given e) })
+behind-tells s (double buf) a =
+    one-then (line (ltb 8192 (doubledSize (netsOf s))) 15 0 (λ e. doubled-large a (ltb-true _ _ e)))
+    (λ b. length-tells 16 (8 + 7 * doubledSize (netsOf s)) buf (doubled-size a (simp accepted at b)))
+
+call-tells : (s : List ℕ) (c : AnyCall) → Tells (checkRefusal s then behind s c) (Refused s c)
+call-tells s c = one-then (record { given = λ e. bad-image (image-tells s .given e) }) (λ e. behind-tells s c (accept.check s .0 e))
+
+drawn : {s : List ℕ} {c : AnyCall} {number place : ℕ} → Refused s c number place → (checkRefusal s then behind s c) ≡ some (refusal number place)
+drawn (bad-image b) = rw (image-drawn b)
+drawn {s} (bad-state {st} a h) = rw (accept.check s .1 a, length-drawn 10 _ st h)
+drawn {s} (bad-step a b) = rw (accept.check s .1 a) (lent-drawn b)
+drawn {s} (many-cycles {k = k} a l) = rw (accept.check s .1 a, lt-ltb 4096 k l)
+drawn {s} (bad-run {k = k} a l b) = rw (accept.check s .1 a, le-ltb 4096 k l) (lent-drawn b)
+drawn {s} (doubled-large a l) = rw (accept.check s .1 a, lt-ltb 8192 (doubledSize (netsOf s)) l)
+drawn {s} (doubled-size {buf} a l h) = rw (accept.check s .1 a, le-ltb 8192 (doubledSize (netsOf s)) l, length-drawn 16 _ buf h)
+
+-- an answer a, which give makes of a refusal, where the chain o decides
+by-chain : {A : Type 0} {r : Refusal} (o : Option Refusal) (a : A) (give : Refusal → A)
+    → (o ≡ none → a ≡ give r → ⊥) → ((q : Refusal) → o ≡ some q → a ≡ give q) → ((q : Refusal) → give q ≡ give r → q ≡ r)
+    → (a ≡ give r) ↔ (o ≡ some r)
+by-chain none a give n s i = (λ e. absurd (n refl e), λ h. absurd (not-some h))
+by-chain (some q) a give n s i = (λ e. ap some (i q (sym (s q refl) ∙ e)), λ h. s q refl ∙ ap give (same h))
+
+gives : (s : List ℕ) (c : AnyCall) (r : Refusal) → Gives s c r ↔ (checkRefusal s then behind s c ≡ some r)
+unfolding powerUpRefusal stepRefusal asStep runRefusal asRun doubleRefusal
+gives s check r = one (checkRefusal s)
+  where
+    one : (o : Option Refusal) → (o ≡ some r) ↔ (o then none ≡ some r)
+    one none = (λ h. h, λ h. h)
+    one (some q) = (λ h. h, λ h. h)
+gives s (power-up st) r =
+    by-chain (powerUpRefusal s st) (powerUpOf s st .refusal) some
+    (λ e h. not-some (rw (power-up-accepted s st e) at h)) (λ q e. rw (power-up-refused s st q e)) (λ q. same)
+gives s (step st row nets) r =
+    by-chain (stepRefusal s st row nets) (stepOf s st row nets .answer) refused
+    (λ e h. not-refused (rw (step-accepted s st row nets e) at h)) (λ q e. rw (step-refused s st row nets q e)) (λ q h. cc)
+gives s (run st k rows outputs) r =
+    by-chain (runRefusal s st k rows outputs) (runOf s st k rows outputs .answer) refused
+    (λ e h. not-refused (rw (run-accepted s st k rows outputs e) at h)) (λ q e. rw (run-refused s st k rows outputs q e)) (λ q h. cc)
+gives s (double buf) r =
+    by-chain (doubleRefusal s buf) (doubleOf s buf .refusal) some
+    (λ e h. not-some (rw (double-accepted s buf e) at h)) (λ q e. rw (double-refused s buf q e)) (λ q. same)
+
+pub refusals : Refusals
+refusals s c r = (λ h. call-tells s c .given (gives s c r .0 h), λ h. gives s c r .1 (drawn h))

@@ -1,0 +1,89 @@
+-- Which refusal each call gives: its number, its place, and the order of the conditions (document 01, "When a call turns back").
+-- Each condition stands with what has to hold for it to be tried, so that of any call at most one of them holds; where none does, the call is accepted (Accepted).
+use Prim.Native.Nat.{ℕ, _+_, _*_, _≤_, _<_}
+use mathlib.Core.Logic.{_↔_}
+use mathlib.Core.Path.{_≡_}
+use mathlib.Core.List.{List}
+use mathlib.Core.Option.{some}
+use lib.ListN.{length, getD}
+use Rattle.netlist.specs.declared.image.Net.{Net}
+use Rattle.netlist.specs.Image.{sizesOf, netsOf}
+use Rattle.netlist.specs.declared.answer.Refusal.{Refusal}
+use Rattle.netlist.specs.Check.{checkRefusal}
+use Rattle.tracker.specs.Calls.{refused, powerUpOf, stepOf, runOf}
+use Rattle.doubling.specs.Doubled.{doubledSize, doubleOf}
+use Rattle.claims.specs.Reading.{netOf}
+use Rattle.claims.specs.Accepted.{Sized, PinsBelow, ValuesListed, UnlistedZero, NetsAccepted, RightCounts, AcceptedImage, AcceptedState, AcceptedRows}
+
+-- a call, with the state and the bytes that it is lent beside its image
+pub data AnyCall : Type 0 where
+  check : AnyCall
+  power-up : (st : List ℕ) → AnyCall
+  step : (st row nets : List ℕ) → AnyCall
+  run : (st : List ℕ) (k : ℕ) (rows outputs : List ℕ) → AnyCall
+  double : (buf : List ℕ) → AnyCall
+
+-- the call on the image s gives the refusal r
+abbrev pub Gives : (s : List ℕ) → AnyCall → Refusal → Type 0
+Gives s check r = checkRefusal s ≡ some r
+Gives s (power-up st) r = powerUpOf s st .refusal ≡ some r
+Gives s (step st row nets) r = stepOf s st row nets .answer ≡ refused r
+Gives s (run st k rows outputs) r = runOf s st k rows outputs .answer ≡ refused r
+Gives s (double buf) r = doubleOf s buf .refusal ≡ some r
+
+-- 4 to 7 at x as net i of n, by their number
+pub data BadNet (n i : ℕ) (x : Net) : (number : ℕ) → Type 0 where
+  kind : 8 < x .kind → BadNet n i x 4
+  pin : x .kind ≤ 8 → (PinsBelow n i x → ⊥) → BadNet n i x 5
+  value : x .kind ≤ 8 → PinsBelow n i x → (ValuesListed x → ⊥) → BadNet n i x 6
+  unlisted : x .kind ≤ 8 → PinsBelow n i x → ValuesListed x → (UnlistedZero x → ⊥) → BadNet n i x 7
+
+-- 1 to 8, by their number and place. Nets are tried in turn, each for 4 to 7, so that 8 is tried where all of them are accepted
+pub data BadImage (s : List ℕ) : (number place : ℕ) → Type 0 where
+  short : length s < 8 → BadImage s 1 0
+  no-nets : 8 ≤ length s → sizesOf s .nets ≡ 0 → BadImage s 2 0
+  many-nets : 8 ≤ length s → 8192 < sizesOf s .nets → BadImage s 2 0
+  inexact : 8 ≤ length s → 1 ≤ sizesOf s .nets → sizesOf s .nets ≤ 8192 → (length s ≡ 8 + 7 * sizesOf s .nets → ⊥) → BadImage s 3 0
+  bad-net : {number i : ℕ} → Sized s → i < sizesOf s .nets → NetsAccepted s i → BadNet (sizesOf s .nets) i (netOf s i) number → BadImage s number i
+  miscounted : Sized s → NetsAccepted s (sizesOf s .nets) → (RightCounts s → ⊥) → BadImage s 8 0
+
+-- byte i of xs is the first above 3
+pub record FirstAbove3 (xs : List ℕ) (i : ℕ) : Type 0 where
+  pub below : i < length xs
+  pub above : 3 < getD xs i 0
+  pub first : (j : ℕ) → j < i → getD xs j 0 ≤ 3
+
+-- 10 to 14, where rowBytes bytes are wanted in the rows and filled bytes in the buffer
+pub data BadLent (s : List ℕ) (rowBytes filled : ℕ) (st rows buffer : List ℕ) : (number place : ℕ) → Type 0 where
+  state-size : (length st ≡ sizesOf s .registers → ⊥) → BadLent s rowBytes filled st rows buffer 10 0
+  state-byte : {i : ℕ} → length st ≡ sizesOf s .registers → FirstAbove3 st i → BadLent s rowBytes filled st rows buffer 11 i
+  row-size : AcceptedState s st → (length rows ≡ rowBytes → ⊥) → BadLent s rowBytes filled st rows buffer 12 0
+  row-byte : {i : ℕ} → AcceptedState s st → length rows ≡ rowBytes → FirstAbove3 rows i → BadLent s rowBytes filled st rows buffer 13 i
+  buffer-size : AcceptedState s st → AcceptedRows rowBytes rows → (length buffer ≡ filled → ⊥) → BadLent s rowBytes filled st rows buffer 14 0
+
+-- what each call is refused with. There is no line for 17: it is never given
+pub data Refused (s : List ℕ) : AnyCall → (number place : ℕ) → Type 0 where
+  -- 1 to 8: every call
+  bad-image : {c : AnyCall} {number place : ℕ} → BadImage s number place → Refused s c number place
+  -- 10: power-up
+  bad-state : {st : List ℕ} → AcceptedImage s → (length st ≡ sizesOf s .registers → ⊥) → Refused s (power-up st) 10 0
+  -- 10 to 14: a step
+  bad-step :
+      {st row nets : List ℕ} {number place : ℕ} → AcceptedImage s
+      → BadLent s (sizesOf s .inputs) (sizesOf s .nets) st row nets number place
+      → Refused s (step st row nets) number place
+  -- 9, and then 10 to 14: a run
+  many-cycles : {st : List ℕ} {k : ℕ} {rows outputs : List ℕ} → AcceptedImage s → 4096 < k → Refused s (run st k rows outputs) 9 0
+  bad-run :
+      {st : List ℕ} {k : ℕ} {rows outputs : List ℕ} {number place : ℕ} → AcceptedImage s → k ≤ 4096
+      → BadLent s (k * sizesOf s .inputs) (k * sizesOf s .outputs) st rows outputs number place
+      → Refused s (run st k rows outputs) number place
+  -- 15 and 16: doubling
+  doubled-large : {buf : List ℕ} → AcceptedImage s → 8192 < doubledSize (netsOf s) → Refused s (double buf) 15 0
+  doubled-size :
+      {buf : List ℕ} → AcceptedImage s → doubledSize (netsOf s) ≤ 8192 → (length buf ≡ 8 + 7 * doubledSize (netsOf s) → ⊥)
+      → Refused s (double buf) 16 0
+
+-- "Given on the stated condition and otherwise never." Proved as `refusals`
+abbrev pub Refusals : Type 0
+Refusals = (s : List ℕ) (c : AnyCall) (r : Refusal) → Gives s c r ↔ Refused s c (r .number) (r .place)
