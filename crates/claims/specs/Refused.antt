@@ -31,58 +31,62 @@ Gives s (step st row nets) r = stepOf s st row nets .answer ≡ refused r
 Gives s (run st k rows outputs) r = runOf s st k rows outputs .answer ≡ refused r
 Gives s (double buf) r = doubleOf s buf .refusal ≡ some r
 
--- 4 to 7 at x as net i of n, by their number
-pub data BadNet (n i : ℕ) (x : Net) : (number : ℕ) → Type 0 where
-  kind : 8 < x .kind → BadNet n i x 4
-  pin : x .kind ≤ 8 → (PinsBelow n i x → ⊥) → BadNet n i x 5
-  value : x .kind ≤ 8 → PinsBelow n i x → (ValuesListed x → ⊥) → BadNet n i x 6
-  unlisted : x .kind ≤ 8 → PinsBelow n i x → ValuesListed x → (UnlistedZero x → ⊥) → BadNet n i x 7
-
--- 1 to 8, by their number and place. Nets are tried in turn, each for 4 to 7, so that 8 is tried where all of them are accepted
-pub data BadImage (s : List ℕ) : (number place : ℕ) → Type 0 where
-  short : length s < 8 → BadImage s 1 0
-  no-nets : 8 ≤ length s → sizesOf s .nets ≡ 0 → BadImage s 2 0
-  many-nets : 8 ≤ length s → 8192 < sizesOf s .nets → BadImage s 2 0
-  inexact : 8 ≤ length s → 1 ≤ sizesOf s .nets → sizesOf s .nets ≤ 8192 → (length s ≡ 8 + 7 * sizesOf s .nets → ⊥) → BadImage s 3 0
-  bad-net : {number i : ℕ} → Sized s → i < sizesOf s .nets → NetsAccepted s i → BadNet (sizesOf s .nets) i (netOf s i) number → BadImage s number i
-  miscounted : Sized s → NetsAccepted s (sizesOf s .nets) → (RightCounts s → ⊥) → BadImage s 8 0
-
 -- byte i of xs is the first above 3
 pub record FirstAbove3 (xs : List ℕ) (i : ℕ) : Type 0 where
   pub below : i < length xs
   pub above : 3 < getD xs i 0
   pub first : (j : ℕ) → j < i → getD xs j 0 ≤ 3
 
--- 10 to 14, where rowBytes bytes are wanted in the rows and filled bytes in the buffer
-pub data BadLent (s : List ℕ) (rowBytes filled : ℕ) (st rows buffer : List ℕ) : (number place : ℕ) → Type 0 where
-  state-size : (length st ≡ sizesOf s .registers → ⊥) → BadLent s rowBytes filled st rows buffer 10 0
-  state-byte : {i : ℕ} → length st ≡ sizesOf s .registers → FirstAbove3 st i → BadLent s rowBytes filled st rows buffer 11 i
-  row-size : AcceptedState s st → (length rows ≡ rowBytes → ⊥) → BadLent s rowBytes filled st rows buffer 12 0
-  row-byte : {i : ℕ} → AcceptedState s st → length rows ≡ rowBytes → FirstAbove3 rows i → BadLent s rowBytes filled st rows buffer 13 i
-  buffer-size : AcceptedState s st → AcceptedRows rowBytes rows → (length buffer ≡ filled → ⊥) → BadLent s rowBytes filled st rows buffer 14 0
+-- at x as net i of n, the number of the first of 4 to 7 that applies
+module _ (n i : ℕ) (x : Net) where
+  pub data BadNet : (number : ℕ) → Type 0 where
+    kind : 8 < x .kind → BadNet 4
+    pin : x .kind ≤ 8 → (PinsBelow n i x → ⊥) → BadNet 5
+    value : x .kind ≤ 8 → PinsBelow n i x → (ValuesListed x → ⊥) → BadNet 6
+    unlisted : x .kind ≤ 8 → PinsBelow n i x → ValuesListed x → (UnlistedZero x → ⊥) → BadNet 7
 
--- what each call is refused with. There is no line for 17: it is never given
-pub data Refused (s : List ℕ) : AnyCall → (number place : ℕ) → Type 0 where
-  -- 1 to 8: every call
-  bad-image : {c : AnyCall} {number place : ℕ} → BadImage s number place → Refused s c number place
-  -- 10: power-up
-  bad-state : {st : List ℕ} → AcceptedImage s → (length st ≡ sizesOf s .registers → ⊥) → Refused s (power-up st) 10 0
-  -- 10 to 14: a step
-  bad-step :
-      {st row nets : List ℕ} {number place : ℕ} → AcceptedImage s
-      → BadLent s (sizesOf s .inputs) (sizesOf s .nets) st row nets number place
-      → Refused s (step st row nets) number place
-  -- 9, and then 10 to 14: a run
-  many-cycles : {st : List ℕ} {k : ℕ} {rows outputs : List ℕ} → AcceptedImage s → 4096 < k → Refused s (run st k rows outputs) 9 0
-  bad-run :
-      {st : List ℕ} {k : ℕ} {rows outputs : List ℕ} {number place : ℕ} → AcceptedImage s → k ≤ 4096
-      → BadLent s (k * sizesOf s .inputs) (k * sizesOf s .outputs) st rows outputs number place
-      → Refused s (run st k rows outputs) number place
-  -- 15 and 16: doubling
-  doubled-large : {buf : List ℕ} → AcceptedImage s → 8192 < doubledSize (netsOf s) → Refused s (double buf) 15 0
-  doubled-size :
-      {buf : List ℕ} → AcceptedImage s → doubledSize (netsOf s) ≤ 8192 → (length buf ≡ 8 + 7 * doubledSize (netsOf s) → ⊥)
-      → Refused s (double buf) 16 0
+-- on the image s, the number and the place of the first that applies
+module _ (s : List ℕ) where
+  -- of 1 to 8. Nets are tried in turn, each for 4 to 7, and 8 only where all of them are accepted
+  pub data BadImage : (number place : ℕ) → Type 0 where
+    short : length s < 8 → BadImage 1 0
+    no-nets : 8 ≤ length s → sizesOf s .nets ≡ 0 → BadImage 2 0
+    many-nets : 8 ≤ length s → 8192 < sizesOf s .nets → BadImage 2 0
+    inexact : 8 ≤ length s → 1 ≤ sizesOf s .nets → sizesOf s .nets ≤ 8192 → (length s ≡ 8 + 7 * sizesOf s .nets → ⊥) → BadImage 3 0
+    bad-net : {number i : ℕ} → Sized s → i < sizesOf s .nets → NetsAccepted s i → BadNet (sizesOf s .nets) i (netOf s i) number → BadImage number i
+    miscounted : Sized s → NetsAccepted s (sizesOf s .nets) → (RightCounts s → ⊥) → BadImage 8 0
+
+  -- of 10 to 14, where rowBytes bytes are wanted in the rows and filled bytes in the buffer
+  module _ (rowBytes filled : ℕ) (st rows buffer : List ℕ) where
+    pub data BadLent : (number place : ℕ) → Type 0 where
+      state-size : (length st ≡ sizesOf s .registers → ⊥) → BadLent 10 0
+      state-byte : {i : ℕ} → length st ≡ sizesOf s .registers → FirstAbove3 st i → BadLent 11 i
+      row-size : AcceptedState s st → (length rows ≡ rowBytes → ⊥) → BadLent 12 0
+      row-byte : {i : ℕ} → AcceptedState s st → length rows ≡ rowBytes → FirstAbove3 rows i → BadLent 13 i
+      buffer-size : AcceptedState s st → AcceptedRows rowBytes rows → (length buffer ≡ filled → ⊥) → BadLent 14 0
+
+  -- of all that the call meets. There is no line for 17, which is never given
+  pub data Refused : AnyCall → (number place : ℕ) → Type 0 where
+    -- 1 to 8: every call
+    bad-image : {c : AnyCall} {number place : ℕ} → BadImage number place → Refused c number place
+    -- 10: power-up
+    bad-state : {st : List ℕ} → AcceptedImage s → (length st ≡ sizesOf s .registers → ⊥) → Refused (power-up st) 10 0
+    -- 10 to 14: a step
+    bad-step :
+        {st row nets : List ℕ} {number place : ℕ} → AcceptedImage s
+        → BadLent (sizesOf s .inputs) (sizesOf s .nets) st row nets number place
+        → Refused (step st row nets) number place
+    -- 9, and then 10 to 14: a run
+    many-cycles : {st : List ℕ} {k : ℕ} {rows outputs : List ℕ} → AcceptedImage s → 4096 < k → Refused (run st k rows outputs) 9 0
+    bad-run :
+        {st : List ℕ} {k : ℕ} {rows outputs : List ℕ} {number place : ℕ} → AcceptedImage s → k ≤ 4096
+        → BadLent (k * sizesOf s .inputs) (k * sizesOf s .outputs) st rows outputs number place
+        → Refused (run st k rows outputs) number place
+    -- 15 and 16: doubling
+    doubled-large : {buf : List ℕ} → AcceptedImage s → 8192 < doubledSize (netsOf s) → Refused (double buf) 15 0
+    doubled-size :
+        {buf : List ℕ} → AcceptedImage s → doubledSize (netsOf s) ≤ 8192 → (length buf ≡ 8 + 7 * doubledSize (netsOf s) → ⊥)
+        → Refused (double buf) 16 0
 
 -- "Given on the stated condition and otherwise never." Proved as `refusals`
 abbrev pub Refusals : Type 0
