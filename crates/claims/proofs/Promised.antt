@@ -3,6 +3,7 @@ use Rattle.gates.proofs.Laws
 use Rattle.gates.proofs.Composed
 use Rattle.gates.proofs.Meaning
 use Rattle.claims.specs.Promised.{Promised}
+use Rattle.claims.proofs.Reading
 use Rattle.claims.proofs.Examples
 use Rattle.claims.proofs.Accepted
 use Rattle.claims.proofs.Refused
@@ -24,6 +25,7 @@ promised =
     record {
       clear-stays = ClearRun.clear-stays;
       doubled-shows = DoubledRun.doubled-shows;
+      image-read = Reading.image-read;
       when-accepted = Accepted.when-accepted;
       refusals = Refused.refusals;
       unchanged = Unchanged.unchanged;

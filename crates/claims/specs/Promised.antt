@@ -3,6 +3,7 @@
 -- src/ of its crate. The record is proved as `promised`, and used by the crate `exports`, field by field.
 use Rattle.gates.specs.Meaning.{GateValues, MarksExact, MuxComposed, GatesMonotone, RelationsMean}
 use Rattle.claims.specs.Examples.{Examples}
+use Rattle.claims.specs.Reading.{ImageRead}
 use Rattle.claims.specs.Accepted.{Accepted}
 use Rattle.claims.specs.Refused.{Refusals}
 use Rattle.claims.specs.Unchanged.{Unchanged}
@@ -22,14 +23,14 @@ pub record Promised : Type 0 where
   pub clear-stays : ClearStays
   -- A run of the doubled netlist shows, as plain values, the values and marks of the run on its source.
   pub doubled-shows : DoubledShows
-
+  -- THE IMAGE. What is read from its bytes are the sizes, kinds and operands that document 01 puts there.
+  pub image-read : ImageRead
   -- DEMAND 1, refusals. A call is accepted exactly if the image and everything that is lent are as document 01 asks.
   pub when-accepted : Accepted
   -- Otherwise its refusal has the number and the place of the first condition that applies, and no other.
   pub refusals : Refusals
   -- A call that is refused changes no byte that it was lent.
   pub unchanged : Unchanged
-
   -- DEMAND 2, values and marks. The gates' values are those of arithmetic.
   pub gate-values : GateValues
   -- NOT, AND, OR and XOR are marked exactly where other values of their marked pins would change their value.
@@ -68,7 +69,6 @@ pub record Promised : Type 0 where
   pub doubled-unseen : DoubledUnseen
   -- The group of each kind has the nets that document 01 gives it, in that order.
   pub groups : Groups
-
   -- DEMAND 3, two runs. Two lists of calls that differ in the values of marked pins alone give the same refusals, verdicts, marks and unmarked values.
   pub demand3 : Demand3
   -- "Agree", by which that is said, means equal marks, and equal values where the mark is 0.

@@ -10,17 +10,17 @@ use Rattle.tracker.specs.Cycle.{Verdict, clear, flow, FirstFlow}
 use Rattle.tracker.specs.Calls.{Answer, done}
 use Rattle.exports.specs.Codes.{refusalCode, outcomeCode, verdictCode, firstFlowCode, answerCode}
 use Rattle.exports.specs.Readings.{refusalRead, outcomeRead, verdictRead, stepRead, firstFlowRead, runRead, CodesRead}
-use Rattle.exports.proofs.Given.{Tabled, Given, no, one, check-given}
-use Rattle.exports.proofs.Small.{Naming, no-net, names, Among, Answered, gave, turned-back, step-answered, run-answered, powered-up-given, doubled-given, naming-small, among-small}
+use Rattle.exports.proofs.Given.{Tabled, Given, no, one, check-given, powered-up-given, doubled-given}
+use Rattle.exports.proofs.Small.{Naming, no-net, names, Among, Answered, gave, turned-back, step-answered, run-answered, naming-small, among-small}
 
 -- a refusal: its number is not below 2^32, and is taken apart
-large : {r : Refusal} → Tabled r → 2 ^ 32 ≤ refusalCode r
+large : {r : Refusal} → Tabled (r .number) (r .place) → 2 ^ 32 ≤ refusalCode r
 large t = omega (arith, t .some-number)
 
-refusal-read : {r : Refusal} → Tabled r → refusalRead (refusalCode r) ≡ r
+refusal-read : {r : Refusal} → Tabled (r .number) (r .place) → refusalRead (refusalCode r) ≡ r
 refusal-read {r} t =
-    let number : refusalCode r / 2 ^ 32 ≡ r .number = omega (arith, t .place) in
-    let place : refusalCode r % 2 ^ 32 ≡ r .place = omega (arith, t .place) in
+    let number : refusalCode r / 2 ^ 32 ≡ r .number = omega (arith, t .low) in
+    let place : refusalCode r % 2 ^ 32 ≡ r .place = omega (arith, t .low) in
     rw (number, place)
 
 outcome-read : {p : Option Refusal} → Given p → outcomeRead (outcomeCode p) ≡ p

@@ -3,7 +3,8 @@ use mathlib.Core.Path.{ap, _∙_}
 use borrow.Author.Needs.{needs}
 use Rattle.tracker.specs.Calls.{PoweredUp}
 use Rattle.exports.specs.Codes.{outcomeCode}
-use Rattle.exports.proofs.Small.{outcome-fits, powered-up-given}
+use Rattle.exports.proofs.Given.{powered-up-given}
+use Rattle.exports.proofs.Small.{outcome-fits}
 use Rattle.exports.proofs.tracker_power_up.Statement.{statement}
 use Rattle.exports.proofs.tracker_power_up.Tie as tie
 
