@@ -102,7 +102,7 @@ module _ (s : List ℕ) (i : ℕ) (l : i < sizesOf s .nets) (out : netOf s i .ki
       (all-unmarked k (drop (sizesOf s .inputs) rows) (o .state) (rest-ready k r) (λ d q. h (suc d) (omega arith)) c (omega arith))
 
 -- how many cycles there are
-cycles-length : (s : List ℕ) (k : ℕ) (rows st : List ℕ) → length (map (λ o. o .verdict) (cyclesOf (netsOf s) (sizesOf s .inputs) k rows st)) ≡ k
+pub cycles-length : (s : List ℕ) (k : ℕ) (rows st : List ℕ) → length (map (λ o. o .verdict) (cyclesOf (netsOf s) (sizesOf s .inputs) k rows st)) ≡ k
 unfolding cyclesOf
 cycles-length s zero rows st = refl
 cycles-length s (suc k) rows st = ap suc (cycles-length s k _ _)

@@ -2,3 +2,4 @@
 pub mod Given
 pub mod Small
 pub mod Readings
+pub mod Says
