@@ -3,3 +3,4 @@ pub mod Given
 pub mod Small
 pub mod Readings
 pub mod Says
+pub mod Held
