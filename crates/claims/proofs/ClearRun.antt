@@ -1,33 +1,31 @@
 -- A clear run stays clear whatever the values of marked pins.
-use Prim.Native.Nat.{ℕ, zero, suc, _+_, _*_, _/_, _%_, _≤_, _<_}
+use Prim.Native.Nat.{ℕ, zero, suc, _+_, _*_, _/_, _%_, _<_}
 use native.Mathlib.Nat.{suc-mul}
 use native.Mathlib.Omega.{arith}
-use mathlib.Core.Path.{_≡_, refl, sym, ap, _∙_}
+use mathlib.Core.Path.{_≡_, refl, ap}
 use mathlib.Core.List.{List, [], _∷_, _++_, map, Forall₂, Forall₂·nil, Forall₂·cons}
 use mathlib.Core.Bool.{Bool, true, false}
 use mathlib.Core.Option.{none}
 use borrow.Author.Tests.{eqb-false}
-use lib.Dec.{eqb, lit≤}
 use lib.ListN.{length, getD, take, drop, List·getD-append}
 use lib.Seq.{getD-append-add}
 use Rattle.gates.specs.Kinds.{OUT}
 use Rattle.gates.specs.Rules.{mark}
 use Rattle.gates.specs.Relations.{AgreeByte, same, low-high, high-low, Agree}
-use Rattle.gates.proofs.Laws.{Code}
 use Rattle.gates.proofs.Meaning.{relations-mean}
 use Rattle.netlist.specs.Image.{sizesOf, netsOf}
 use Rattle.netlist.proofs.Pairs.{pairs-getD}
 use Rattle.netlist.proofs.Refusals.{Codes}
 use Rattle.netlist.proofs.Checked.{check-none, length-nets}
-use Rattle.tracker.specs.Cycle.{Verdict, clear, flow, Cycle, cycleOf, cyclesOf, outputsOf, FirstFlow, firstFlow}
+use Rattle.tracker.specs.Cycle.{Verdict, clear, cycleOf, cyclesOf, outputsOf, FirstFlow, firstFlow}
 use Rattle.tracker.specs.Calls.{done, asRun, powerUpOf, runOf}
 use Rattle.tracker.proofs.Calls.{Ready, run-none, run-accepted, first-ready, rest-ready}
 use Rattle.claims.specs.NetBytes.{netOf, placeOf}
 use Rattle.claims.specs.Verdicts as judged
-use Rattle.claims.specs.Verdicts.{MarkedOutput, Judged, First}
+use Rattle.claims.specs.Verdicts.{Judged, First}
 use Rattle.claims.specs.History.{run}
 use Rattle.claims.specs.TwoRun.{Matched}
-use Rattle.claims.specs.OneRun.{fromPowerUp, clearAfter, SameMarks, ClearStays}
+use Rattle.claims.specs.OneRun.{clearAfter, SameMarks, ClearStays}
 use Rattle.claims.proofs.NetBytes.{net-bytes}
 use Rattle.claims.proofs.Verdicts.{verdicts, first-flows}
 use Rattle.claims.proofs.TwoRun.{demand3}

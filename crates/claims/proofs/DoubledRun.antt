@@ -9,19 +9,19 @@ use Rattle.netlist.specs.Image.{sizesOf, netsOf}
 use Rattle.netlist.specs.declared.answer.Refusal.{Refusal}
 use Rattle.netlist.proofs.Checked.{check-none}
 use Rattle.tracker.specs.Cycle.{FirstFlow, outputsFrom}
-use Rattle.tracker.specs.Calls.{Answer, done, refused, Stepped, powerUpOf, Ran, runOf, runRefusal}
+use Rattle.tracker.specs.Calls.{Answer, done, refused, Stepped, powerUpOf, runOf, runRefusal}
 use Rattle.tracker.proofs.Calls.{either-way, run-none}
-use Rattle.doubling.specs.Doubled.{doubledSize, doubledImage, doubleRefusal, doubleOf, split}
+use Rattle.doubling.specs.Doubled.{doubleRefusal, doubleOf, split}
 use Rattle.doubling.proofs.Checks.{doubled-sizes, double-none, double-refused, double-accepted}
 use Rattle.claims.specs.Steps.{stepsOf, outputsIn}
-use Rattle.claims.specs.History.{Call, run, ran, CallAnswer, CallResult, refusalOf, accepted, Finished, AllFinished, Made, AllMade}
+use Rattle.claims.specs.History.{run, ran, CallAnswer, CallResult, refusalOf, accepted, Finished, AllFinished, Made, AllMade}
 use Rattle.claims.specs.Pairing.{Again, run-again, shown, Shows, Paired}
-use Rattle.claims.specs.OneRun.{fromPowerUp, InTwo, ShowsInTwo, DoubledShows}
+use Rattle.claims.specs.OneRun.{fromPowerUp, ShowsInTwo, DoubledShows}
 use Rattle.claims.proofs.Unchanged.{not-some}
 use Rattle.claims.proofs.History.{accepted-none}
 use Rattle.claims.proofs.Splitting.{split-value, split-mark, split-append, in-two}
 use Rattle.claims.proofs.Pairing.{demand2}
-use Rattle.claims.proofs.OneRun.{powered, run-taken, RunResult, run-ends, run-result}
+use Rattle.claims.proofs.OneRun.{powered, run-taken, run-ends, run-result}
 
 -- CYCLES that show the same: so do the outputs of all of them
 outputs-shown : (s d : List ℕ) {os os′ : List Stepped} → Forall₂ (Shows s d) os os′ → map (λ x. x % 2) (outputsIn d os′) ≡ split (outputsIn s os)

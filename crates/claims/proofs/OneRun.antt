@@ -3,18 +3,18 @@ use Prim.Native.Nat.{ℕ}
 use native.Mathlib.Omega.{arith}
 use mathlib.Core.Path.{_≡_, refl, sym, _∙_}
 use mathlib.Core.List.{List, [], _∷_}
-use mathlib.Core.Option.{none, some}
+use mathlib.Core.Option.{none}
 use lib.ListN.{length}
 use Rattle.gates.specs.Relations.{Agree}
 use Rattle.netlist.specs.Image.{sizesOf}
 use Rattle.netlist.specs.declared.answer.Refusal.{Refusal}
 use Rattle.netlist.proofs.Checked.{Checked}
 use Rattle.tracker.specs.Cycle.{FirstFlow}
-use Rattle.tracker.specs.Calls.{done, refused, powerUpRefusal, powerUpOf, runRefusal, runOf}
+use Rattle.tracker.specs.Calls.{done, powerUpRefusal, powerUpOf, runRefusal, runOf}
 use Rattle.tracker.proofs.Calls.{either-way, power-up-none, power-up-refused, run-refused}
 use Rattle.claims.specs.Steps.{stepsOf, AsSteps}
 use Rattle.claims.specs.History.{run, ran, CallAnswer, CallResult, TurnedBack, Made}
-use Rattle.claims.specs.TwoRun.{SameCall, turned-back, finished, SameCalls}
+use Rattle.claims.specs.TwoRun.{turned-back, finished, SameCalls}
 use Rattle.claims.proofs.Unchanged.{not-refused, not-some}
 
 -- what is not refused is accepted

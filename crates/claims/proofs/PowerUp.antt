@@ -1,12 +1,10 @@
 -- Power-up, register by register.
 use Prim.Native.Nat.{ℕ, _<_}
-use native.Mathlib.Omega.{arith}
 use mathlib.Core.Path.{_≡_}
 use mathlib.Core.List.{List}
 use lib.ListN.{length}
-use borrow.Author.Tests.{eq-eqb, ne-eqb}
 use Rattle.gates.specs.Kinds.{REG}
-use Rattle.netlist.specs.Image.{sizesOf, netsOf}
+use Rattle.netlist.specs.Image.{sizesOf}
 use Rattle.netlist.proofs.Checked.{Checked, check-none}
 use Rattle.tracker.specs.Calls.{start, starts, powerUpOf}
 use Rattle.tracker.proofs.Calls.{starts-state, powered-up}

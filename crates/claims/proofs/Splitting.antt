@@ -1,9 +1,9 @@
 -- The two bytes for each byte, in the doubled netlist: where its value and its mark stand.
-use Prim.Native.Nat.{ℕ, zero, suc, _+_, _*_, _/_, _%_, _<_}
+use Prim.Native.Nat.{ℕ, zero, suc, _+_, _*_, _/_, _%_}
 use native.Mathlib.Omega.{arith}
-use mathlib.Core.Path.{_≡_, refl, sym, ap, ap₂, _∙_}
+use mathlib.Core.Path.{_≡_, refl}
 use mathlib.Core.List.{List, [], _∷_, _++_}
-use lib.ListN.{length, getD}
+use lib.ListN.{getD}
 use Rattle.doubling.specs.Doubled.{split}
 use Rattle.doubling.proofs.Simulation.{two-more}
 use Rattle.claims.specs.OneRun.{InTwo}

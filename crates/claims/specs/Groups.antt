@@ -1,5 +1,4 @@
 -- The groups of the doubled netlist, computed for one net of each kind: what stands at each place of a group, and the order of the groups.
-use Prim.Native.Nat.{ℕ}
 use mathlib.Core.Path.{_≡_}
 use mathlib.Core.List.{List, [], _∷_, _++_}
 use Rattle.gates.specs.Kinds.{CONST, INPUT, REG, NOT, AND, OR, XOR, MUX, OUT}

@@ -9,7 +9,7 @@ use Rattle.gates.specs.Kinds.{REG, OUT}
 use Rattle.gates.specs.Rules.{notByte, andByte, orByte, xorByte, muxByte, gateByte}
 use Rattle.gates.specs.Relations.{AgreeByte, BelowByte, equal, zero-marked}
 use Rattle.gates.specs.Meaning.{Changed}
-use Rattle.netlist.specs.Image.{sizesOf, net, netsOf}
+use Rattle.netlist.specs.Image.{sizesOf, netsOf}
 use Rattle.netlist.specs.Check.{checkRefusal}
 use Rattle.tracker.specs.Cycle.{cycleOf, FirstFlow}
 use Rattle.tracker.specs.Calls.{done, powerUpOf, runOf, runRefusal}

@@ -2,15 +2,14 @@
 use Prim.Native.Nat.{ℕ, _/_, _%_, _^_, _≤_, _<_}
 use native.Mathlib.Omega.{arith}
 use mathlib.Core.Path.{_≡_, refl, sym, ap, _∙_}
-use mathlib.Core.List.{List, map}
+use mathlib.Core.List.{List}
 use mathlib.Core.Option.{Option, none, some}
 use borrow.Author.Tests.{lt-ltb}
 use lib.ListN.{length}
 use Rattle.netlist.specs.declared.image.Net.{Net}
 use Rattle.netlist.specs.Image.{sizesOf, netsOf}
 use Rattle.netlist.specs.declared.answer.Refusal.{Refusal}
-use Rattle.netlist.specs.Check.{checkRefusal}
-use Rattle.tracker.specs.Cycle.{Verdict, clear, flow, Cycle, cyclesOf, FirstFlow, firstFlow}
+use Rattle.tracker.specs.Cycle.{Verdict, clear, cyclesOf, FirstFlow, firstFlow}
 use Rattle.tracker.specs.Calls.{Answer, done, refused, asStep, asRun, stepRefusal, stepOf, runOf}
 use Rattle.tracker.proofs.Calls.{either-way, step-accepted, step-refused, run-accepted}
 use Rattle.claims.specs.Verdicts as judged
@@ -23,7 +22,7 @@ use Rattle.claims.proofs.Promised.{promised}
 use Rattle.exports.specs.Codes.{outcomeCode, verdictCode, firstFlowCode, answerCode}
 use Rattle.exports.specs.Readings.{outcomeRead, stepRead, runRead}
 use Rattle.exports.specs.Says.{NumbersSay}
-use Rattle.exports.proofs.Small.{Naming, Among, Answered, gave, turned-back, step-answered, run-answered, naming-small, among-small}
+use Rattle.exports.proofs.Small.{Answered, gave, turned-back, step-answered, run-answered, naming-small, among-small}
 use Rattle.exports.proofs.Readings.{reads}
 
 -- REFUSED: the answer of which the number is 2^32 or more

@@ -1,8 +1,7 @@
 -- What the gate rules mean: values, marks, and the relations of bytes.
 use Prim.Native.Nat.{ℕ, _+_, _*_, _-_, _/_, _%_, _≤_}
 use native.Mathlib.Omega.{arith}
-use mathlib.Core.Logic.{_↔_}
-use mathlib.Core.Path.{_≡_, refl, sym, ap}
+use mathlib.Core.Path.{_≡_, refl, sym}
 use mathlib.Core.Bool.{Bool, true, false, _||_, not, cond}
 use borrow.Author.Tests.{eqb-true, eqb-false, not-true, ne-eqb, eq-eqb}
 use lib.Dec.{eqb}
