@@ -1,5 +1,6 @@
 -- The theorems, all of which stand in `Promised`, and the laws that they rest on.
 pub mod Reading
+pub mod Terms
 pub mod Examples
 pub mod Accepted
 pub mod InTurn

@@ -3,6 +3,7 @@ use Rattle.gates.proofs.Laws
 use Rattle.gates.proofs.Composed
 use Rattle.gates.proofs.Meaning
 use Rattle.claims.specs.Promised.{Promised}
+use Rattle.claims.proofs.Terms
 use Rattle.claims.proofs.Reading
 use Rattle.claims.proofs.Examples
 use Rattle.claims.proofs.Accepted
@@ -25,6 +26,7 @@ promised =
     record {
       clear-stays = ClearRun.clear-stays;
       doubled-shows = DoubledRun.doubled-shows;
+      terms = Terms.terms;
       image-read = Reading.image-read;
       when-accepted = Accepted.when-accepted;
       refusals = Refused.refusals;
@@ -39,6 +41,7 @@ promised =
       ruled-bytes = NetBytes.ruled-bytes;
       verdicts = Verdicts.verdicts;
       first-flows = Verdicts.first-flows;
+      step-is-cycle = Steps.step-is-cycle;
       run-is-steps = Steps.run-is-steps;
       histories = History.histories;
       demand2 = Pairing.demand2;

@@ -1,5 +1,6 @@
 -- What is claimed of gates, cycles, calls and the doubled netlist together. `Promised` names it all.
 pub mod Reading
+pub mod Terms
 pub mod Examples
 pub mod Accepted
 pub mod Refused

@@ -2,6 +2,7 @@
 -- `use` line names. That the code does what these statements speak of (`checkRefusal`, `powerUpOf`, `stepOf`, `runOf`, `doubleOf`) is the contract of each call, in
 -- src/ of its crate. The record is proved as `promised`, and used by the crate `exports`, field by field.
 use Rattle.gates.specs.Meaning.{GateValues, MarksExact, MuxComposed, GatesMonotone, RelationsMean}
+use Rattle.claims.specs.Terms.{Terms}
 use Rattle.claims.specs.Examples.{Examples}
 use Rattle.claims.specs.Reading.{ImageRead}
 use Rattle.claims.specs.Accepted.{Accepted}
@@ -10,7 +11,7 @@ use Rattle.claims.specs.Unchanged.{Unchanged}
 use Rattle.claims.specs.NetBytes.{NetBytesAll, RuledBytesAll}
 use Rattle.claims.specs.PowerUp.{PowerUpStarts}
 use Rattle.claims.specs.Verdicts.{Verdicts, FirstFlows}
-use Rattle.claims.specs.Steps.{RunIsSteps}
+use Rattle.claims.specs.Steps.{StepIsCycle, RunIsSteps}
 use Rattle.claims.specs.History.{Histories}
 use Rattle.claims.specs.DoubledImage.{DoubledChecks, DoublingWrites, DoubledReadsAll, DoubledPlaced, DoubledUnseen}
 use Rattle.claims.specs.Groups.{Groups}
@@ -23,6 +24,8 @@ pub record Promised : Type 0 where
   pub clear-stays : ClearStays
   -- A run of the doubled netlist shows, as plain values, the values and marks of the run on its source.
   pub doubled-shows : DoubledShows
+  -- THE TERMS of the statements below: the numbers of the kinds, a count of nets, a mark, the outputs of a cycle, the doubled size.
+  pub terms : Terms
   -- THE IMAGE. What is read from its bytes are the sizes, kinds and operands that document 01 puts there.
   pub image-read : ImageRead
   -- DEMAND 1, refusals. A call is accepted exactly if the image and everything that is lent are as document 01 asks.
@@ -51,6 +54,8 @@ pub record Promised : Type 0 where
   pub verdicts : Verdicts
   -- A run answers with its first cycle that has a flow, or clear where no cycle has one.
   pub first-flows : FirstFlows
+  -- A step gives its cycle: the verdict, the bytes of all nets, and the state after the clock.
+  pub step-is-cycle : StepIsCycle
   -- A run gives what its steps give, one for each cycle.
   pub run-is-steps : RunIsSteps
   -- Over a list of calls, each call works on the state that the one before it left, refused calls included.

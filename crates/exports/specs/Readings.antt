@@ -1,5 +1,5 @@
 -- How the number that a call answers with is read, by the divisions and rests of include/tracker.h; and that what is read is the answer itself.
-use Prim.Native.Nat.{ℕ, _/_, _%_, _^_, _≤_, _<_}
+use Prim.Native.Nat.{ℕ, _+_, _*_, _/_, _%_, _^_, _≤_, _<_}
 use mathlib.Core.Path.{_≡_}
 use mathlib.Core.List.{List}
 use mathlib.Core.Option.{Option, none, some}
@@ -10,7 +10,7 @@ use Rattle.netlist.specs.Check.{refusal, checkRefusal}
 use Rattle.tracker.specs.Cycle.{Verdict, clear, flow, FirstFlow}
 use Rattle.tracker.specs.Calls.{Answer, done, refused, powerUpOf, stepOf, runOf}
 use Rattle.doubling.specs.Doubled.{doubleOf}
-use Rattle.exports.specs.Codes.{outcomeCode, verdictCode, firstFlowCode, answerCode}
+use Rattle.exports.specs.Codes.{refusalCode, outcomeCode, verdictCode, firstFlowCode, answerCode}
 
 -- a refusal: its number stands above its place
 abbrev pub refusalRead : ℕ → Refusal
@@ -45,6 +45,11 @@ pub record CodesRead : Type 0 where
       (s st : List ℕ) (k : ℕ) (rows outputs : List ℕ)
       → runRead (answerCode firstFlowCode (runOf s st k rows outputs .answer)) ≡ runOf s st k rows outputs .answer
   pub double : (s buffer : List ℕ) → outcomeRead (outcomeCode (doubleOf s buffer .refusal)) ≡ doubleOf s buffer .refusal
+  -- the numbers themselves: a refusal's number stands above its place, clear is 65,535, a flow its net, and a run's cycle stands above its verdict
+  pub refusal-is : (r : Refusal) → refusalCode r ≡ r .number * 2 ^ 32 + r .place
+  pub clear-is : verdictCode clear ≡ 65535
+  pub flow-is : (net : ℕ) → verdictCode (flow net) ≡ net
+  pub first-flow-is : (f : FirstFlow) → firstFlowCode f ≡ f .cycle * 65536 + verdictCode (f .verdict)
   -- a step has nothing above its verdict
   pub step-small : (s st row nets : List ℕ) {v : Verdict} → stepOf s st row nets .answer ≡ done v → verdictCode v < 65536
   -- 0 says that a check, a power-up or a doubling is done. It is no answer of a step, and no verdict of a run

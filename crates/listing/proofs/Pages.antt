@@ -9,7 +9,7 @@ use Rattle.tracker.specs.Calls.{start, starts, asRun, runRefusal, runOf}
 use Rattle.listing_text.specs.Lines.{digitsUpTo, decimal, outputDigits, cycleLine, endLine, refusedLine}
 use Rattle.listing_rows.specs.Rows.{rowsUpTo}
 use Rattle.listing.specs.Listing.{linesOf, listingText}
-use Rattle.listing.specs.Pages.{badNet, oneInput, oneConst, crossed, Pages}
+use Rattle.listing.specs.Pages.{badNet, oneInput, oneConst, crossed, delay, Pages}
 
 -- what is computed with
 checking : Unit {0}
@@ -25,7 +25,7 @@ unfolding digitsUpTo decimal outputDigits cycleLine endLine refusedLine rowsUpTo
 listing = tt
 
 images : Unit {0}
-unfolding counter badNet oneInput oneConst crossed
+unfolding counter badNet oneInput oneConst crossed delay
 images = tt
 
 pub pages : Pages
@@ -33,6 +33,7 @@ unfolding checking running listing images
 pages =
     record {
       counter-page = refl;
+      delay-page = refl;
       refused-image = refl;
       refused-net = refl;
       no-outputs = refl;

@@ -12,5 +12,6 @@ line-examples =
       flow-line = refl;
       no-outputs = refl;
       end-line = refl;
+      longest-number = refl;
       refused-line = refl;
     }

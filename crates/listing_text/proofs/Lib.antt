@@ -3,3 +3,4 @@ pub mod Decimal
 pub mod Putting
 pub mod Lengths
 pub mod Examples
+pub mod Numbers

@@ -18,5 +18,7 @@ pub record LineExamples : Type 0 where
   pub no-outputs : cycleLine 10 [] clear ≡ ascii "10 - clear\n"
   -- the listing ends after 120 cycles
   pub end-line : endLine 120 ≡ ascii "end 120\n"
+  -- the largest number that can be printed has 20 digits
+  pub longest-number : endLine 18446744073709551615 ≡ ascii "end 18446744073709551615\n"
   -- the number of a refusal comes first, and then its place
   pub refused-line : refusedLine (refusal 5 3) ≡ ascii "refused 5 3\n"

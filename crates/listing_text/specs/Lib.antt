@@ -2,3 +2,4 @@
 pub mod Ascii
 pub mod Lines
 pub mod Examples
+pub mod Numbers

@@ -1,0 +1,30 @@
+-- The small terms by which the other statements are made, each said without its definition: so none of them can be wrong in definition and code alike.
+use Prim.Native.Nat.{ℕ, _+_, _/_, _≤_}
+use mathlib.Core.Logic.{_↔_}
+use mathlib.Core.Path.{_≡_}
+use mathlib.Core.List.{List, [], _∷_}
+use mathlib.Core.Bool.{true}
+use Rattle.gates.specs.Kinds.{CONST, INPUT, REG, NOT, AND, OR, XOR, MUX, OUT}
+use Rattle.gates.specs.Rules.{mark}
+use Rattle.gates.specs.Relations.{AgreeByte}
+use Rattle.netlist.specs.declared.image.Net.{Net}
+use Rattle.netlist.specs.Image.{sizesOf, netsOf, count}
+use Rattle.tracker.specs.Cycle.{cycleOf, outputsFrom}
+use Rattle.doubling.specs.Doubled.{doubledSize, valueNet}
+
+-- proved as `terms`
+pub record Terms : Type 0 where
+  -- the kinds have the numbers of document 01's table
+  pub kinds : (CONST ≡ 0) × (INPUT ≡ 1) × (REG ≡ 2) × (NOT ≡ 3) × (AND ≡ 4) × (OR ≡ 5) × (XOR ≡ 6) × (MUX ≡ 7) × (OUT ≡ 8)
+  -- `count k` counts the nets of kind k, and no others
+  pub count-none : (k : ℕ) → count k [] ≡ 0
+  pub count-one : (x : Net) (xs : List Net) → count (x .kind) (x ∷ xs) ≡ 1 + count (x .kind) xs
+  pub count-other : (k : ℕ) (x : Net) (xs : List Net) → (x .kind ≡ k → ⊥) → count k (x ∷ xs) ≡ count k xs
+  -- a byte has mark 1 exactly if it is 2 or 3
+  pub marked : (x : ℕ) → x ≤ 3 → (mark x ≡ true) ↔ (x / 2 ≡ 1)
+  -- every byte agrees with itself, also one above 3
+  pub same : (x : ℕ) → AgreeByte x x
+  -- the outputs that are taken from the net bytes of a cycle are its outputs
+  pub outputs : (xs : List Net) (row st : List ℕ) → outputsFrom 0 xs (cycleOf xs row st .bytes) ≡ cycleOf xs row st .outputs
+  -- the doubled size is where the groups end
+  pub size : (s : List ℕ) → doubledSize (netsOf s) ≡ valueNet (netsOf s) (sizesOf s .nets)
