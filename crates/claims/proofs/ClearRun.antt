@@ -3,7 +3,7 @@ use Prim.Native.Nat.{ℕ, zero, suc, _+_, _*_, _/_, _%_, _<_}
 use native.Mathlib.Nat.{suc-mul}
 use native.Mathlib.Omega.{arith}
 use mathlib.Core.Path.{_≡_, refl, ap}
-use mathlib.Core.List.{List, [], _∷_, _++_, map, Forall₂, Forall₂·nil, Forall₂·cons}
+use mathlib.Core.List.{List, [], _∷_, _++_, map, Forall₂·nil, Forall₂·cons}
 use mathlib.Core.Bool.{Bool, true, false}
 use mathlib.Core.Option.{none}
 use borrow.Author.Tests.{eqb-false}
@@ -11,11 +11,9 @@ use lib.ListN.{length, getD, take, drop, List·getD-append}
 use lib.Seq.{getD-append-add}
 use Rattle.gates.specs.Kinds.{OUT}
 use Rattle.gates.specs.Rules.{mark}
-use Rattle.gates.specs.Relations.{AgreeByte, same, low-high, high-low, Agree}
-use Rattle.gates.proofs.Meaning.{relations-mean}
+use Rattle.gates.specs.Relations.{AgreeByte, same, low-high, high-low}
 use Rattle.netlist.specs.Image.{sizesOf, netsOf}
 use Rattle.netlist.proofs.Pairs.{pairs-getD}
-use Rattle.netlist.proofs.Refusals.{Codes}
 use Rattle.netlist.proofs.Checked.{check-none, length-nets}
 use Rattle.tracker.specs.Cycle.{Verdict, clear, cycleOf, cyclesOf, outputsOf, FirstFlow, firstFlow}
 use Rattle.tracker.specs.Calls.{done, asRun, powerUpOf, runOf}
@@ -25,23 +23,12 @@ use Rattle.claims.specs.Verdicts as judged
 use Rattle.claims.specs.Verdicts.{Judged, First}
 use Rattle.claims.specs.History.{run}
 use Rattle.claims.specs.TwoRun.{Matched}
-use Rattle.claims.specs.OneRun.{clearAfter, SameMarks, ClearStays}
+use Rattle.claims.specs.OneRun.{clearAfter, ClearStays}
 use Rattle.claims.proofs.NetBytes.{net-bytes}
 use Rattle.claims.proofs.Verdicts.{verdicts, first-flows}
 use Rattle.claims.proofs.TwoRun.{demand3}
+use Rattle.claims.proofs.TwoSteps.{marks-agree}
 use Rattle.claims.proofs.OneRun.{powered, run-taken, same-run}
-
--- ROWS that differ at most in the values of marked pins agree, where the first are codes
-rows-agree : {xs : List ℕ} (ys : List ℕ) → Codes xs → SameMarks xs ys → Agree xs ys
-rows-agree [] Forall₂·nil h = Forall₂·nil
-rows-agree (y ∷ ys) Forall₂·nil h = absurd (omega (arith, h .size))
-rows-agree [] (Forall₂·cons c cs) h = absurd (omega (arith, h .size))
-rows-agree (y ∷ ys) (Forall₂·cons {a = x} {l₁ = xs} c cs) h =
-    let m : x / 2 ≡ y / 2 = h .marks 0 (omega arith) in
-    Forall₂·cons
-    (relations-mean .agree x y c (omega arith) .1 (m, h .values 0 (omega arith)))
-    (rows-agree ys cs
-    (record { size = omega (arith, h .size); marks = λ i l. h .marks (suc i) (omega arith); values = λ i l. h .values (suc i) (omega arith) }))
 
 -- OUTPUTS that agree are equal where the first is unmarked
 unmarked-equal : {x y : ℕ} → AgreeByte x y → x / 2 % 2 ≡ 0 → x ≡ y
@@ -126,7 +113,7 @@ clear-stays s a a′ k rows rows′ outputs outputs′ p p′ rs l h =
     let st′ = powerUpOf s a′ .state in
     let c = powered s a p in
     let r = run-none s st k rows outputs .0 (run-taken s st k rows outputs h) .0 in
-    let matched = Forall₂·cons (Matched.runs {k = k} (rows-agree rows′ (r .codes) rs) l) Forall₂·nil in
+    let matched = Forall₂·cons (Matched.runs {k = k} (marks-agree rows′ (r .codes) rs) l) Forall₂·nil in
     let two = demand3 s (check-none s .1 (c .0)) (run k rows outputs ∷ []) (run k rows′ outputs′ ∷ []) matched in
     let t = same-run s st st′ k rows rows′ outputs outputs′ (two .from-power-up a a′ (c .1) (powered s a′ p′ .1)) h in
     record {

@@ -18,6 +18,7 @@ use Rattle.claims.proofs.DoubledImage
 use Rattle.claims.proofs.Groups
 use Rattle.claims.proofs.Pairing
 use Rattle.claims.proofs.TwoRun
+use Rattle.claims.proofs.TwoSteps
 use Rattle.claims.proofs.ClearRun
 use Rattle.claims.proofs.DoubledRun
 
@@ -25,6 +26,7 @@ pub promised : Promised
 promised =
     record {
       clear-stays = ClearRun.clear-stays;
+      steps-agree = TwoSteps.steps-agree;
       doubled-shows = DoubledRun.doubled-shows;
       terms = Terms.terms;
       image-read = Reading.image-read;

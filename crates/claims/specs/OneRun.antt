@@ -1,4 +1,4 @@
--- What one run from power-up says, in bytes alone: without lists of calls, and without the relations by which the demands are stated. It is what a user leans on
+-- What one run from power-up, or one step, says, in bytes alone: without lists of calls, and without the relations by which the demands are stated. It is what a user leans on
 -- who runs a netlist once; that it follows shows that the demands say it.
 use Prim.Native.Nat.{ℕ, _+_, _*_, _/_, _%_, _<_}
 use mathlib.Core.Path.{_≡_}
@@ -7,8 +7,8 @@ use mathlib.Core.Option.{none}
 use lib.ListN.{length, getD}
 use Rattle.gates.specs.Kinds.{OUT}
 use Rattle.netlist.specs.Image.{sizesOf}
-use Rattle.tracker.specs.Cycle.{clear, FirstFlow}
-use Rattle.tracker.specs.Calls.{Answer, done, powerUpOf, Ran, runOf}
+use Rattle.tracker.specs.Cycle.{Verdict, clear, FirstFlow}
+use Rattle.tracker.specs.Calls.{Answer, done, powerUpOf, Stepped, stepOf, Ran, runOf}
 use Rattle.doubling.specs.Doubled.{doubleOf}
 use Rattle.claims.specs.NetBytes.{netOf, placeOf}
 
@@ -20,7 +20,7 @@ fromPowerUp s a k rows outputs = runOf s (powerUpOf s a .state) k rows outputs
 abbrev pub clearAfter : ℕ → Answer FirstFlow
 clearAfter k = done (record { cycle = k; verdict = clear })
 
--- rows that differ at most in the values of marked pins
+-- bytes that differ at most in the values of marked ones
 pub record SameMarks (rows rows′ : List ℕ) : Type 0 where
   pub size : length rows ≡ length rows′
   pub marks : (i : ℕ) → i < length rows → getD rows i 0 / 2 ≡ getD rows′ i 0 / 2
@@ -41,6 +41,19 @@ ClearStays =
     → powerUpOf s a .refusal ≡ none → powerUpOf s a′ .refusal ≡ none → SameMarks rows rows′ → length outputs ≡ length outputs′
     → fromPowerUp s a k rows outputs .answer ≡ clearAfter k
     → StaysClear s k (fromPowerUp s a k rows outputs) (fromPowerUp s a′ k rows′ outputs′)
+
+-- two steps that are lent states and rows which differ at most in the values of marked bytes: the same verdict, and net and register bytes that differ at most so
+pub record SameSteps (o o′ : Stepped) : Type 0 where
+  pub answer : o .answer ≡ o′ .answer
+  pub nets : SameMarks (o .nets) (o′ .nets)
+  pub state : SameMarks (o .state) (o′ .state)
+
+-- from any state, wherever the first step is not refused; proved as `steps-agree`
+abbrev pub StepsAgree : Type 0
+StepsAgree =
+    (s st st′ row row′ nets nets′ : List ℕ) (v : Verdict)
+    → SameMarks st st′ → SameMarks row row′ → length nets ≡ length nets′ → stepOf s st row nets .answer ≡ done v
+    → SameSteps (stepOf s st row nets) (stepOf s st′ row′ nets′)
 
 -- rows for the doubled netlist: each byte as two, its value and its mark
 pub record InTwo (rows rows′ : List ℕ) : Type 0 where

@@ -17,11 +17,13 @@ use Rattle.claims.specs.DoubledImage.{DoubledChecks, DoublingWrites, Dou
 use Rattle.claims.specs.Groups.{Groups}
 use Rattle.claims.specs.Pairing.{Demand2}
 use Rattle.claims.specs.TwoRun.{Demand3}
-use Rattle.claims.specs.OneRun.{ClearStays, DoubledShows}
+use Rattle.claims.specs.OneRun.{ClearStays, StepsAgree, DoubledShows}
 
 pub record Promised : Type 0 where
   -- FIRST, what most users lean on. A run from power-up that is clear stays clear, and shows the same bytes at its protected OUTs, whatever the untrusted pins do.
   pub clear-stays : ClearStays
+  -- Two steps from states and on rows that differ in the values of marked bytes alone give the same verdict, the same marks and the same unmarked values.
+  pub steps-agree : StepsAgree
   -- A run of the doubled netlist shows, as plain values, the values and marks of the run on its source.
   pub doubled-shows : DoubledShows
   -- THE TERMS of the statements below: the numbers of the kinds, a count of nets, a mark, the outputs of a cycle, the doubled size.

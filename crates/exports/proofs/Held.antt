@@ -1,33 +1,48 @@
--- Each promise that no other proof of this crate uses, used once: so one that is left out of the record, or says nothing, is missed here.
+-- Each promise that no other proof of this crate uses, used part by part: so one that is left out of the record, or loses a part, is missed here.
 use Prim.Native.Nat.{ℕ, _+_, _*_, _/_, _%_, _≤_, _<_}
 use mathlib.Core.Path.{_≡_}
 use mathlib.Core.List.{List, [], _∷_, Forall₂·nil}
 use mathlib.Core.Option.{none}
 use lib.Dec.{lit≤}
 use lib.ListN.{length, getD}
-use Rattle.gates.specs.Kinds.{REG, OUT}
+use Rattle.gates.specs.Kinds.{REG, OR, XOR, OUT}
 use Rattle.gates.specs.Rules.{notByte, andByte, orByte, xorByte, muxByte, gateByte}
-use Rattle.gates.specs.Relations.{AgreeByte, BelowByte, equal, zero-marked}
+use Rattle.gates.specs.Relations.{AgreeByte, Agree, BelowByte, equal, zero-marked}
 use Rattle.gates.specs.Meaning.{Changed}
-use Rattle.netlist.specs.Image.{sizesOf, netsOf}
+use Rattle.netlist.specs.Image.{sizesOf, net, netsOf}
 use Rattle.netlist.specs.Check.{checkRefusal}
-use Rattle.tracker.specs.Cycle.{cycleOf, FirstFlow}
-use Rattle.tracker.specs.Calls.{done, powerUpOf, runOf, runRefusal}
-use Rattle.doubling.specs.Doubled.{groupLength, doubledSize, valueNet, doubledNets, doubledImage, doubleRefusal, doubleOf}
+use Rattle.tracker.specs.Cycle.{Verdict, flow, cycleOf, FirstFlow}
+use Rattle.tracker.specs.Calls.{done, powerUpOf, Stepped, stepOf, stepRefusal, runOf, runRefusal}
+use Rattle.doubling.specs.Doubled.{groupLength, groupAt, doubledSize, valueNet, markNet, doubledNets, doubledImage, doubleRefusal, doubleOf, split}
 use Rattle.claims.specs.Examples.{counted}
 use Rattle.claims.specs.NetBytes.{netOf, Counted, HasByte}
-use Rattle.claims.specs.Steps.{stepsOf, outputsIn}
+use Rattle.claims.specs.Steps.{stepsOf, outputsIn, lastState}
 use Rattle.claims.specs.Groups.{oneOfEach, theirGroups}
-use Rattle.claims.specs.History.{Call, history, cyclesIn, AllMade}
-use Rattle.claims.specs.OneRun.{fromPowerUp, InTwo}
+use Rattle.claims.specs.Verdicts.{First}
+use Rattle.claims.specs.History.{Call, step, history, cyclesIn, AllMade}
+use Rattle.claims.specs.Pairing.{Again, step-again, shown}
+use Rattle.claims.specs.TwoRun.{SameCycle, SameShown}
+use Rattle.claims.specs.OneRun.{fromPowerUp, SameMarks, InTwo}
 use Rattle.claims.proofs.Promised.{promised}
 
--- GATES
-xor-value : xorByte 1 2 % 2 ≡ 1
-xor-value = promised .gate-values .xor 1 2 (lit≤ tt) (lit≤ tt)
+-- TERMS
+kind-numbers : (OR ≡ 5) × (XOR ≡ 6)
+kind-numbers = (promised .terms .kinds .5, promised .terms .kinds .6)
 
-changed-marked : (a b : ℕ) → a ≤ 3 → b ≤ 3 → Changed (λ a b c. andByte a b) a b 0 → andByte a b / 2 ≡ 1
-changed-marked a b h k d = promised .marks-exact .and a b 0 h k (lit≤ tt) .1 d
+-- GATES
+gate-values : (a b : ℕ) → a ≤ 3 → b ≤ 3
+    → (notByte a % 2 ≡ (1 + a) % 2) × (andByte a b % 2 ≡ (a * b) % 2) × (orByte a b % 2 ≡ (a + b + a * b) % 2) × (xorByte a b % 2 ≡ (a + b) % 2)
+gate-values a b h k = let g = promised .gate-values in (g .not a h, g .and a b h k, g .or a b h k, g .xor a b h k)
+
+gate-marks : (a b : ℕ) → a ≤ 3 → b ≤ 3
+    → (notByte a / 2 ≡ 1 → Changed (λ a b c. notByte a) a b 0) × (Changed (λ a b c. andByte a b) a b 0 → andByte a b / 2 ≡ 1)
+    × (orByte a b / 2 ≡ 1 → Changed (λ a b c. orByte a b) a b 0) × (Changed (λ a b c. xorByte a b) a b 0 → xorByte a b / 2 ≡ 1)
+gate-marks a b h k =
+    let g = promised .marks-exact in
+    (g .not a b 0 h k (lit≤ tt) .0, g .and a b 0 h k (lit≤ tt) .1, g .or a b 0 h k (lit≤ tt) .0, g .xor a b 0 h k (lit≤ tt) .1)
+
+changed : {f : (a b c : ℕ) → ℕ} {a b c : ℕ} (d : Changed f a b c) → (f (d .other-a) (d .other-b) (d .other-c) % 2 ≡ f a b c % 2 → ⊥) × AgreeByte a (d .other-a)
+changed d = (d .changed, d .agree-a)
 
 mux-parts : muxByte 1 1 2 ≡ orByte (andByte 1 (notByte 2)) (andByte 1 2)
 mux-parts = promised .mux-composed 1 1 2 (lit≤ tt) (lit≤ tt) (lit≤ tt)
@@ -38,13 +53,22 @@ more-marks = promised .gates-monotone 4 0 2 1 1 0 0 zero-marked equal equal
 agree-marks : (x y : ℕ) → x ≤ 3 → y ≤ 3 → AgreeByte x y → x / 2 ≡ y / 2
 agree-marks x y h k a = promised .relations-mean .agree x y h k .0 a .0
 
-counter-outputs : counted .outputs ≡ 0 ∷ 3 ∷ 2 ∷ 0 ∷ []
-counter-outputs = promised .examples .c12
+counter-run : (counted .outputs ≡ 0 ∷ 3 ∷ 2 ∷ 0 ∷ []) × (counted .answer ≡ done (record { cycle = 1; verdict = flow 5 }))
+counter-run = (promised .examples .c12, promised .examples .c12-flow)
 
 -- CYCLES of an accepted image
 module _ (s st : List ℕ) (h : checkRefusal s ≡ none) (l : length st ≡ sizesOf s .registers) where
-  register-starts : (i : ℕ) → i < sizesOf s .nets → netOf s i .kind ≡ REG → netOf s i .b ≡ 1 → Counted REG s i (powerUpOf s st .state) 1
-  register-starts = promised .power-up-starts s st h l .start-1
+  register-starts : (i : ℕ) → i < sizesOf s .nets → netOf s i .kind ≡ REG
+      → (netOf s i .b ≡ 0 → Counted REG s i (powerUpOf s st .state) 0) × (netOf s i .b ≡ 1 → Counted REG s i (powerUpOf s st .state) 1)
+      × (netOf s i .b ≡ 2 → Counted REG s i (powerUpOf s st .state) 0)
+  register-starts i m k = let p = promised .power-up-starts s st h l in (p .start-0 i m k, p .start-1 i m k, p .none-given i m k)
+
+  powered-up : (powerUpOf s st .refusal ≡ none) × (length (powerUpOf s st .state) ≡ sizesOf s .registers)
+  powered-up = let p = promised .power-up-starts s st h l in (p .done, p .size)
+
+  sizes : (row : List ℕ) → length row ≡ sizesOf s .inputs
+      → let c = cycleOf (netsOf s) row st in (length (c .bytes) ≡ sizesOf s .nets) × (length (c .state) ≡ sizesOf s .registers)
+  sizes row m = let n = promised .net-bytes s row st h m l in (n .nets, n .registers)
 
   net-has : (row : List ℕ) → length row ≡ sizesOf s .inputs → (i : ℕ) → i < sizesOf s .nets
       → let bs = cycleOf (netsOf s) row st .bytes in HasByte s row st bs i (netOf s i) (getD bs i 0)
@@ -59,9 +83,16 @@ module _ (s st : List ℕ) (h : checkRefusal s ≡ none) (l : length st ≡ size
   only-bytes row bs = promised .ruled-bytes s row st bs h
 
 -- CALLS
+step-nets : (s st row nets : List ℕ) → stepRefusal s st row nets ≡ none → stepOf s st row nets .nets ≡ cycleOf (netsOf s) row st .bytes
+step-nets s st row nets h = rw (promised .step-is-cycle s st row nets h)
+
 run-outputs : (s st : List ℕ) (k : ℕ) (rows outputs : List ℕ) → runRefusal s st k rows outputs ≡ none
-    → runOf s st k rows outputs .outputs ≡ outputsIn s (stepsOf s st k rows)
-run-outputs s st k rows outputs h = promised .run-is-steps s st k rows outputs h .outs
+    → (runOf s st k rows outputs .outputs ≡ outputsIn s (stepsOf s st k rows)) × (runOf s st k rows outputs .state ≡ lastState st (stepsOf s st k rows))
+run-outputs s st k rows outputs h = let a = promised .run-is-steps s st k rows outputs h in (a .outs, a .state)
+
+run-first : (s st : List ℕ) (k : ℕ) (rows outputs : List ℕ) (h : runRefusal s st k rows outputs ≡ none)
+    → let a = promised .run-is-steps s st k rows outputs h in (runOf s st k rows outputs .answer ≡ done (a .first)) × First (a .verdicts) (a .first)
+run-first s st k rows outputs h = let a = promised .run-is-steps s st k rows outputs h in (a .answer, a .is-first)
 
 handed-on : (s st : List ℕ) (cs : List Call) → AllMade s st cs (history s st cs) (cyclesIn (history s st cs))
 handed-on = promised .histories
@@ -77,14 +108,28 @@ module _ (s buf : List ℕ) (h : checkRefusal s ≡ none) (few : doubledSize (ne
   doubled-read : netsOf (doubledImage s) ≡ doubledNets (netsOf s)
   doubled-read = promised .doubled-reads s h few .nets
 
-  next-group : (i : ℕ) → i < sizesOf s .nets → valueNet (netsOf s) (i + 1) ≡ valueNet (netsOf s) i + groupLength (netOf s i .kind)
-  next-group = promised .doubled-placed s h .next
+  places : (valueNet (netsOf s) 0 ≡ 0) × (valueNet (netsOf s) (sizesOf s .nets) ≡ sizesOf (doubledImage s) .nets)
+  places = let p = promised .doubled-placed s h in (p .first, p .end)
+
+  group-places : (i : ℕ) → i < sizesOf s .nets
+      → (valueNet (netsOf s) (i + 1) ≡ valueNet (netsOf s) i + groupLength (netOf s i .kind))
+      × (length (groupAt (netsOf s) i (netOf s i)) ≡ groupLength (netOf s i .kind)) × (markNet (netsOf s) i + 1 ≡ valueNet (netsOf s) (i + 1))
+  group-places i m = let p = promised .doubled-placed s h in (p .next i m, p .lengths i, p .mark i)
+
+  group-nets : (i j : ℕ) → i < sizesOf s .nets → j < groupLength (netOf s i .kind)
+      → netOf (doubledImage s) (valueNet (netsOf s) i + j) ≡ getD (groupAt (netsOf s) i (netOf s i)) j (net 0 0 0 0)
+  group-nets = promised .doubled-placed s h .groups
 
 doubled-buffer : (s buf : List ℕ) → doubleRefusal s buf ≡ none → doubleOf s buf .buffer ≡ doubledImage s
 doubled-buffer s buf h = rw (promised .doubling-writes s buf h)
 
 free-outs : (s : List ℕ) (j : ℕ) → netOf (doubledImage s) j .kind ≡ OUT → netOf (doubledImage s) j .b ≡ 0
 free-outs s = promised .doubled-unseen s .outs
+
+register-pair : (s : List ℕ) (i : ℕ) → i < sizesOf s .nets → netOf s i .kind ≡ REG
+    → (netOf (doubledImage s) (valueNet (netsOf s) i) ≡ net REG (valueNet (netsOf s) (netOf s i .a)) (netOf s i .b) 0)
+    × (netOf (doubledImage s) (markNet (netsOf s) i) ≡ net REG (markNet (netsOf s) (netOf s i .a)) 0 0)
+register-pair s i l k = let u = promised .doubled-unseen s in (u .values i l k, u .marks i l k)
 
 each-group : doubledNets oneOfEach ≡ theirGroups
 each-group = promised .groups .nets
@@ -95,9 +140,26 @@ two-values :
     (a a′ : List ℕ) (k : ℕ) (rows rows′ outputs outputs′ : List ℕ) (f : FirstFlow)
     → powerUpOf s a .refusal ≡ none → powerUpOf d a′ .refusal ≡ none → InTwo rows rows′ → length outputs′ ≡ 2 * length outputs
     → fromPowerUp s a k rows outputs .answer ≡ done f → (j : ℕ) → j < length (fromPowerUp s a k rows outputs .outputs)
-    → getD (fromPowerUp d a′ k rows′ outputs′ .outputs) (2 * j) 0 % 2 ≡ getD (fromPowerUp s a k rows outputs .outputs) j 0 % 2
-two-values s buf w a a′ k rows rows′ outputs outputs′ f p p′ r l h = promised .doubled-shows s buf w a a′ k rows rows′ outputs outputs′ f p p′ r l h .values
+    → (getD (fromPowerUp d a′ k rows′ outputs′ .outputs) (2 * j) 0 % 2 ≡ getD (fromPowerUp s a k rows outputs .outputs) j 0 % 2)
+    × (getD (fromPowerUp d a′ k rows′ outputs′ .outputs) (2 * j + 1) 0 % 2 ≡ getD (fromPowerUp s a k rows outputs .outputs) j 0 / 2)
+two-values s buf w a a′ k rows rows′ outputs outputs′ f p p′ r l h j m =
+    let t = promised .doubled-shows s buf w a a′ k rows rows′ outputs outputs′ f p p′ r l h in (t .values j m, t .marks j m)
+
+a-step-again : (d row b b′ : List ℕ) → length b′ ≡ sizesOf d .nets → Again d (step row b) (step (split row) b′)
+a-step-again d row b b′ l = step-again l
 
 -- TWO RUNS
+same-cycle : {o o′ : Stepped} → SameCycle o o′ → (o .answer ≡ o′ .answer) × Agree (o .nets) (o′ .nets) × Agree (o .state) (o′ .state)
+same-cycle c = (c .verdict, c .nets, c .state)
+
+same-shown : {s d : List ℕ} {o o′ : Stepped} → SameShown s d o o′ → (j : ℕ) → j < sizesOf s .outputs
+    → (getD (shown d o) (2 * j + 1) 0 ≡ getD (shown d o′) (2 * j + 1) 0)
+    × (getD (shown d o) (2 * j + 1) 0 ≡ 0 → getD (shown d o) (2 * j) 0 ≡ getD (shown d o′) (2 * j) 0)
+same-shown c j l = (c .marks j l, c .values j l)
+
+steps-same : (s st st′ row row′ nets nets′ : List ℕ) (v : Verdict) → SameMarks st st′ → SameMarks row row′ → length nets ≡ length nets′
+    → stepOf s st row nets .answer ≡ done v → stepOf s st row nets .answer ≡ stepOf s st′ row′ nets′ .answer
+steps-same s st st′ row row′ nets nets′ v q p l h = promised .steps-agree s st st′ row row′ nets nets′ v q p l h .answer
+
 powered : (s a : List ℕ) → checkRefusal s ≡ none → length a ≡ sizesOf s .registers → powerUpOf s a .refusal ≡ none
 powered s a h l = promised .demand3 s h [] [] Forall₂·nil .powered-up a l .0
