@@ -48,7 +48,7 @@ pub record NetBytes (s row st : List ℕ) (c : Cycle) : Type 0 where
   pub registers : length (c .state) ≡ sizesOf s .registers
   pub clock : (i : ℕ) → i < sizesOf s .nets → netOf s i .kind ≡ REG → Counted REG s i (c .state) (getD (c .bytes) (netOf s i .a) 0)
 
--- every cycle on an accepted image, with a row of I bytes and a state of R. An accepted step is one (stepOf), and an accepted run is its steps (Steps).
+-- every cycle on an accepted image, with a row of I bytes and a state of R. An accepted step is one (StepIsCycle of Steps), and an accepted run is its steps (AsSteps).
 -- Proved as `net-bytes`
 abbrev pub NetBytesAll : Type 0
 NetBytesAll =

@@ -48,17 +48,17 @@ pub record Promised : Type 0 where
   pub examples : Examples
   -- Power-up gives each register its start, whatever the state held before.
   pub power-up-starts : PowerUpStarts
-  -- In every cycle each net has the byte of its kind, and after the clock each register the byte of its net.
+  -- In every cycle, which a step is and of which a run is made, each net has the byte of its kind, and after the clock each register the byte of its net.
   pub net-bytes : NetBytesAll
   -- No other bytes are such, so that the bytes of a cycle can be checked net by net.
   pub ruled-bytes : RuledBytesAll
   -- The verdict of a cycle is the lowest protected OUT that is marked, or clear where there is none.
   pub verdicts : Verdicts
-  -- A run answers with its first cycle that has a flow, or clear where no cycle has one.
+  -- The first flow among cycles is that of the first cycle that has one, or clear where none has; that a run answers so is part of `run-is-steps`.
   pub first-flows : FirstFlows
   -- A step gives its cycle: the verdict, the bytes of all nets, and the state after the clock.
   pub step-is-cycle : StepIsCycle
-  -- A run gives what its steps give, one for each cycle.
+  -- A run gives what its steps give, one for each cycle: their outputs, the last state, and the first flow of their verdicts.
   pub run-is-steps : RunIsSteps
   -- Over a list of calls, each call works on the state that the one before it left, refused calls included.
   pub histories : Histories
@@ -78,5 +78,5 @@ pub record Promised : Type 0 where
   pub groups : Groups
   -- DEMAND 3, two runs. Two lists of calls that differ in the values of marked pins alone give the same refusals, verdicts, marks and unmarked values.
   pub demand3 : Demand3
-  -- "Agree", by which that is said, means equal marks, and equal values where the mark is 0.
+  -- "Agree", by which that is said, means of bytes 0 to 3 equal marks, and equal values where the mark is 0.
   pub relations-mean : RelationsMean

@@ -1,7 +1,7 @@
 -- Each promise that no other proof of this crate uses, used part by part: so one that is left out of the record, or loses a part, is missed here.
 use Prim.Native.Nat.{ℕ, _+_, _*_, _/_, _%_, _≤_, _<_}
 use mathlib.Core.Path.{_≡_}
-use mathlib.Core.List.{List, [], _∷_, Forall₂·nil}
+use mathlib.Core.List.{List, [], _∷_, Forall₂, Forall₂·nil}
 use mathlib.Core.Option.{none}
 use lib.Dec.{lit≤}
 use lib.ListN.{length, getD}
@@ -9,19 +9,21 @@ use Rattle.gates.specs.Kinds.{REG, OR, XOR, OUT}
 use Rattle.gates.specs.Rules.{notByte, andByte, orByte, xorByte, muxByte, gateByte}
 use Rattle.gates.specs.Relations.{AgreeByte, Agree, BelowByte, equal, zero-marked}
 use Rattle.gates.specs.Meaning.{Changed}
+use Rattle.netlist.specs.declared.image.Net.{Net}
 use Rattle.netlist.specs.Image.{sizesOf, net, netsOf}
+use Rattle.netlist.specs.declared.answer.Refusal.{Refusal}
 use Rattle.netlist.specs.Check.{checkRefusal}
-use Rattle.tracker.specs.Cycle.{Verdict, flow, cycleOf, FirstFlow}
+use Rattle.tracker.specs.Cycle.{Verdict, clear, flow, cycleOf, FirstFlow}
 use Rattle.tracker.specs.Calls.{done, powerUpOf, Stepped, stepOf, stepRefusal, runOf, runRefusal}
 use Rattle.doubling.specs.Doubled.{groupLength, groupAt, doubledSize, valueNet, markNet, doubledNets, doubledImage, doubleRefusal, doubleOf, split}
 use Rattle.claims.specs.Examples.{counted}
 use Rattle.claims.specs.NetBytes.{netOf, Counted, HasByte}
 use Rattle.claims.specs.Steps.{stepsOf, outputsIn, lastState}
 use Rattle.claims.specs.Groups.{oneOfEach, theirGroups}
-use Rattle.claims.specs.Verdicts.{First}
-use Rattle.claims.specs.History.{Call, step, history, cyclesIn, AllMade}
+use Rattle.claims.specs.Verdicts.{MarkedOutput, Judged, lowest, First, first}
+use Rattle.claims.specs.History.{Call, step, CallResult, history, cyclesIn, TurnedBack, AllMade}
 use Rattle.claims.specs.Pairing.{Again, step-again, shown}
-use Rattle.claims.specs.TwoRun.{SameCycle, SameShown}
+use Rattle.claims.specs.TwoRun.{SameCycle, SameCall, turned-back, finished, SameShown}
 use Rattle.claims.specs.OneRun.{fromPowerUp, SameMarks, InTwo}
 use Rattle.claims.proofs.Promised.{promised}
 
@@ -148,7 +150,20 @@ two-values s buf w a a′ k rows rows′ outputs outputs′ f p p′ r l h j m =
 a-step-again : (d row b b′ : List ℕ) → length b′ ≡ sizesOf d .nets → Again d (step row b) (step (split row) b′)
 a-step-again d row b b′ l = step-again l
 
+-- VERDICTS
+lowest-flow : {xs : List Net} {bs : List ℕ} {i : ℕ} → Judged xs bs (flow i) → MarkedOutput xs bs i × ((j : ℕ) → j < i → MarkedOutput xs bs j → ⊥)
+lowest-flow (lowest m h) = (m, h)
+
+earliest-flow : {vs : List Verdict} {c n : ℕ} → First vs (record { cycle = c; verdict = flow n })
+    → (getD vs c clear ≡ flow n) × ((d : ℕ) → d < c → getD vs d clear ≡ clear)
+earliest-flow (first l e h) = (e, h)
+
 -- TWO RUNS
+call-parts : {m n : CallResult} {A : Type 0} → SameCall m n → ((r : Refusal) → TurnedBack r (m .answer) → TurnedBack r (n .answer) → A)
+    → (m .answer ≡ n .answer → Agree (m .buffer) (n .buffer) → Forall₂ SameCycle (m .cycles) (n .cycles) → A) → A
+call-parts (turned-back r t u) f g = f r t u
+call-parts (finished t e b c) f g = g e b c
+
 same-cycle : {o o′ : Stepped} → SameCycle o o′ → (o .answer ≡ o′ .answer) × Agree (o .nets) (o′ .nets) × Agree (o .state) (o′ .state)
 same-cycle c = (c .verdict, c .nets, c .state)
 

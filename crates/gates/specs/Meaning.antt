@@ -46,7 +46,7 @@ GatesMonotone =
     (kind a a′ b b′ c c′ : ℕ) → BelowByte a a′ → BelowByte b b′ → BelowByte c c′
     → BelowByte (gateByte kind a b c) (gateByte kind a′ b′ c′)
 
--- two bytes agree exactly if their marks are equal, and their values too where the mark is 0; the first is below the second exactly if their values are equal, and
+-- two bytes from 0 to 3 agree exactly if their marks are equal, and their values too where the mark is 0; the first is below the second exactly if their values are equal, and
 -- its mark is 1 only if the second's is. Proved as `relations-mean`
 pub record RelationsMean : Type 0 where
   pub agree : (x y : ℕ) → x ≤ 3 → y ≤ 3 → AgreeByte x y ↔ ((x / 2 ≡ y / 2) × (x / 2 ≡ 0 → x % 2 ≡ y % 2))
