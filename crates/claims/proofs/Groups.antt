@@ -5,4 +5,20 @@ use Rattle.claims.specs.Groups.{oneOfEach, theirGroups, Groups}
 
 pub groups : Groups
 unfolding groupLengths groupLength doubledSize valueNet markNet groupOf groupsFrom doubledNets oneOfEach theirGroups
-groups = record { nets = refl; size = refl }
+groups =
+    record {
+      each = λ xs i x.
+          record {
+            const = λ e. rw e;
+            input = λ e. rw e;
+            reg = λ e. rw e;
+            not = λ e. rw e;
+            and = λ e. rw e;
+            or = λ e. rw e;
+            xor = λ e. rw e;
+            mux = λ e. rw e;
+            out = λ e. rw e;
+          };
+      nets = refl;
+      size = refl;
+    }

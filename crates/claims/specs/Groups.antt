@@ -1,10 +1,11 @@
--- The groups of the doubled netlist, computed for one net of each kind: what stands at each place of a group, and the order of the groups.
+-- The groups of the doubled netlist: the nets of each kind's group, for any net; and, computed, all groups of a netlist with one net of each kind.
+use Prim.Native.Nat.{ℕ, _+_}
 use mathlib.Core.Path.{_≡_}
 use mathlib.Core.List.{List, [], _∷_, _++_}
 use Rattle.gates.specs.Kinds.{CONST, INPUT, REG, NOT, AND, OR, XOR, MUX, OUT}
 use Rattle.netlist.specs.declared.image.Net.{Net}
 use Rattle.netlist.specs.Image.{net}
-use Rattle.doubling.specs.Doubled.{doubledSize, doubledNets}
+use Rattle.doubling.specs.Doubled.{valueNet, markNet, groupAt, doubledSize, doubledNets}
 
 -- 0 CONST 1; 1 INPUT; 2 REG(7, no start given); 3 NOT 1; 4 AND(1, 3); 5 OR(1, 4); 6 XOR(3, 5); 7 MUX(4, 5, 6); 8 OUT 7, protected
 unfoldable pub oneOfEach : List Net
@@ -42,7 +43,45 @@ theirGroups =
     -- 31 OUT: OUT va, free; OUT ta, free
     ++ (net OUT 24 0 0 ∷ net OUT 30 0 0 ∷ [])
 
+-- the group of net i of xs, which is x: the value net and the mark net of pin a are va and ta, and so for b and c; the first net of the group is v.
+-- The kinds are 0 CONST, 1 INPUT, 2 REG, 3 NOT, 4 AND, 5 OR, 6 XOR, 7 MUX, 8 OUT
+module _ (xs : List Net) (i : ℕ) (x : Net) where
+  abbrev v : ℕ
+  v = valueNet xs i
+
+  abbrev va : ℕ
+  va = valueNet xs (x .a)
+
+  abbrev ta : ℕ
+  ta = markNet xs (x .a)
+
+  abbrev vb : ℕ
+  vb = valueNet xs (x .b)
+
+  abbrev tb : ℕ
+  tb = markNet xs (x .b)
+
+  abbrev vc : ℕ
+  vc = valueNet xs (x .c)
+
+  abbrev tc : ℕ
+  tc = markNet xs (x .c)
+
+  pub record GroupNets : Type 0 where
+    pub const : x .kind ≡ 0 → groupAt xs i x ≡ net 0 (x .a) 0 0 ∷ net 0 0 0 0 ∷ []
+    pub input : x .kind ≡ 1 → groupAt xs i x ≡ net 1 0 0 0 ∷ net 1 0 0 0 ∷ []
+    pub reg : x .kind ≡ 2 → groupAt xs i x ≡ net 2 va (x .b) 0 ∷ net 2 ta 0 0 ∷ []
+    pub not : x .kind ≡ 3 → groupAt xs i x ≡ net 3 va 0 0 ∷ net 5 ta ta 0 ∷ []
+    pub and : x .kind ≡ 4 → groupAt xs i x ≡ net 4 va vb 0 ∷ net 4 ta vb 0 ∷ net 4 tb va 0 ∷ net 4 ta tb 0 ∷ net 5 (v + 1) (v + 2) 0 ∷ net 5 (v + 4) (v + 3) 0 ∷ []
+    pub or : x .kind ≡ 5 → groupAt xs i x
+        ≡ net 5 va vb 0 ∷ net 3 va 0 0 ∷ net 3 vb 0 0 ∷ net 4 ta (v + 2) 0 ∷ net 4 tb (v + 1) 0 ∷ net 4 ta tb 0 ∷ net 5 (v + 3) (v + 4) 0 ∷ net 5 (v + 6) (v + 5) 0 ∷ []
+    pub xor : x .kind ≡ 6 → groupAt xs i x ≡ net 6 va vb 0 ∷ net 5 ta tb 0 ∷ []
+    pub mux : x .kind ≡ 7 → groupAt xs i x
+        ≡ net 7 va vb vc ∷ net 5 va vb 0 ∷ net 5 ta tb 0 ∷ net 5 (v + 1) (v + 2) 0 ∷ net 4 tc (v + 3) 0 ∷ net 7 ta tb vc ∷ net 5 (v + 4) (v + 5) 0 ∷ []
+    pub out : x .kind ≡ 8 → groupAt xs i x ≡ net 8 va 0 0 ∷ net 8 ta 0 0 ∷ []
+
 -- proved as `groups`
 pub record Groups : Type 0 where
+  pub each : (xs : List Net) (i : ℕ) (x : Net) → GroupNets xs i x
   pub nets : doubledNets oneOfEach ≡ theirGroups
   pub size : doubledSize oneOfEach ≡ 33

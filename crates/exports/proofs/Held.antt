@@ -136,6 +136,10 @@ register-pair s i l k = let u = promised .doubled-unseen s in (u .values i l k, 
 each-group : doubledNets oneOfEach ≡ theirGroups
 each-group = promised .groups .nets
 
+xor-group : (xs : List Net) (i : ℕ) (x : Net) → x .kind ≡ 6
+    → groupAt xs i x ≡ net 6 (valueNet xs (x .a)) (valueNet xs (x .b)) 0 ∷ net 5 (markNet xs (x .a)) (markNet xs (x .b)) 0 ∷ []
+xor-group xs i x = promised .groups .each xs i x .xor
+
 two-values :
     (s buf : List ℕ) → doubleOf s buf .refusal ≡ none
     → let d = doubleOf s buf .buffer in

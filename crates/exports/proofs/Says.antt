@@ -1,15 +1,16 @@
 -- What a number says that a call answers with, by the record of promises.
-use Prim.Native.Nat.{ℕ, _/_, _%_, _^_, _≤_, _<_}
+use Prim.Native.Nat.{ℕ, _+_, _*_, _/_, _%_, _^_, _≤_, _<_}
 use native.Mathlib.Omega.{arith}
 use mathlib.Core.Path.{_≡_, refl, sym, ap, _∙_}
 use mathlib.Core.List.{List}
 use mathlib.Core.Option.{Option, none, some}
-use borrow.Author.Tests.{lt-ltb}
+use borrow.Author.Tests.{lt-ltb, le-ltb, ne-eqb}
+use Rattle.claims.specs.Refused.{check}
 use lib.ListN.{length}
 use Rattle.netlist.specs.declared.image.Net.{Net}
 use Rattle.netlist.specs.Image.{sizesOf, netsOf}
 use Rattle.netlist.specs.declared.answer.Refusal.{Refusal}
-use Rattle.tracker.specs.Cycle.{Verdict, clear, cyclesOf, FirstFlow, firstFlow}
+use Rattle.tracker.specs.Cycle.{Verdict, clear, flow, cyclesOf, FirstFlow, firstFlow}
 use Rattle.tracker.specs.Calls.{Answer, done, refused, asStep, asRun, stepRefusal, stepOf, runOf}
 use Rattle.tracker.proofs.Calls.{either-way, step-accepted, step-refused, run-accepted}
 use Rattle.claims.specs.Verdicts as judged
@@ -54,6 +55,32 @@ step-unmarked s st row nets h =
     rw a (none-marked (promised .verdicts (netsOf s) row st) cc))
     (λ r e. absurd (not-refused (sym (rw (step-refused s st row nets r e) at h))))
 
+-- a verdict that is a flow
+marked-at : {xs : List Net} {bs : List ℕ} {v : Verdict} → Judged xs bs v → (i : ℕ) → v ≡ flow i → MarkedOutput xs bs i
+marked-at (judged.none h) i e = let z : _≡_ {A = ℕ} 0 1 = cc in absurd (omega arith)
+marked-at (judged.lowest {i = j} m h) i e = let k : j ≡ i = cc in rw (← k) m
+
+step-marked : (s st row nets : List ℕ) (i : ℕ) → stepOf s st row nets .answer ≡ done (flow i) → MarkedOutput (netsOf s) (stepOf s st row nets .nets) i
+unfolding asStep
+step-marked s st row nets i h =
+    either-way (stepRefusal s st row nets)
+    (λ e.
+    let a = step-accepted s st row nets e in
+    let v : done _ ≡ done (flow i) = rw a at h in
+    rw a (marked-at (promised .verdicts (netsOf s) row st) i cc))
+    (λ r e. absurd (not-refused (sym (rw (step-refused s st row nets r e) at h))))
+
+flow-read : (n : ℕ) → n < 65535 → stepRead n ≡ done (flow n)
+flow-read n h =
+    let rest : n % 65536 ≡ n = omega arith in
+    rw (lt-ltb n (2 ^ 32) (omega arith), rest, ne-eqb n 65535 (λ e. omega arith))
+
+refusal-read : (n p : ℕ) → 1 ≤ n → p < 2 ^ 32 → outcomeRead (n * 2 ^ 32 + p) ≡ some (record { number = n; place = p })
+refusal-read n p h k =
+    let number : (n * 2 ^ 32 + p) / 2 ^ 32 ≡ n = omega arith in
+    let place : (n * 2 ^ 32 + p) % 2 ^ 32 ≡ p = omega arith in
+    rw (le-ltb (n * 2 ^ 32 + p) (2 ^ 32) (omega arith), number, place)
+
 -- a first flow that is clear has the number of cycles
 clear-cycle : {vs : List Verdict} {f : FirstFlow} → First vs f → f .verdict ≡ clear → f ≡ record { cycle = length vs; verdict = clear }
 clear-cycle (judged.all-clear h) e = refl
@@ -93,6 +120,8 @@ says =
           promised .unchanged .run s st k rows outputs (t .refusal) (t .is);
       double-kept = λ s buf h. let t = turned-outcome _ h in promised .unchanged .double s buf (t .refusal) (t .is);
       step-clear = λ s st row nets h. step-unmarked s st row nets (sym (reads .step s st row nets) ∙ ap stepRead h);
+      step-flow = λ s st row nets h. step-marked s st row nets _ (sym (reads .step s st row nets) ∙ flow-read _ h);
+      check-refused = λ s n p h k e. promised .refusals s check (record { number = n; place = p }) .0 (sym (reads .check s) ∙ ap outcomeRead e ∙ refusal-read n p h k);
       run-clear = λ s a a′ k rows rows′ outputs outputs′ p p′ r l m n.
           promised .clear-stays s a a′ k rows rows′ outputs outputs′ p p′ r l (run-is-clear s _ k rows outputs m n);
     }

@@ -1,5 +1,5 @@
 -- What a number says that a call answers with: the promises, for a caller who sees numbers and lent bytes alone.
-use Prim.Native.Nat.{ℕ, _%_, _^_, _≤_, _<_}
+use Prim.Native.Nat.{ℕ, _+_, _*_, _%_, _^_, _≤_, _<_}
 use mathlib.Core.Logic.{_↔_}
 use mathlib.Core.Path.{_≡_}
 use mathlib.Core.List.{List}
@@ -10,6 +10,7 @@ use Rattle.netlist.specs.Check.{checkRefusal}
 use Rattle.tracker.specs.Calls.{powerUpOf, stepOf, runOf}
 use Rattle.doubling.specs.Doubled.{doubleOf}
 use Rattle.claims.specs.Accepted.{AcceptedImage}
+use Rattle.claims.specs.Refused.{AnyCall, Refused}
 use Rattle.claims.specs.Verdicts.{MarkedOutput}
 use Rattle.claims.specs.OneRun.{fromPowerUp, SameMarks, StaysClear}
 use Rattle.exports.specs.Codes.{outcomeCode, verdictCode, firstFlowCode, answerCode}
@@ -31,6 +32,14 @@ pub record NumbersSay : Type 0 where
   pub step-clear :
       (s st row nets : List ℕ) → answerCode verdictCode (stepOf s st row nets .answer) ≡ 65535
       → (i : ℕ) → MarkedOutput (netsOf s) (stepOf s st row nets .nets) i → ⊥
+  -- a step answers a number below 65,535: that is the net of a protected OUT that is marked, by the bytes that it leaves
+  pub step-flow :
+      (s st row nets : List ℕ) → answerCode verdictCode (stepOf s st row nets .answer) < 65535
+      → MarkedOutput (netsOf s) (stepOf s st row nets .nets) (answerCode verdictCode (stepOf s st row nets .answer))
+  -- an answer of checking of 2^32 or more: the condition of that number applies at that place
+  pub check-refused :
+      (s : List ℕ) (number place : ℕ) → 1 ≤ number → place < 2 ^ 32 → outcomeCode (checkRefusal s) ≡ number * 2 ^ 32 + place
+      → Refused s AnyCall.check number place
   -- a run from power-up answers a number below 2^32 whose rest by 65,536 is 65,535: it is clear, and stays clear whatever the values of marked pins
   pub run-clear :
       (s a a′ : List ℕ) (k : ℕ) (rows rows′ outputs outputs′ : List ℕ)

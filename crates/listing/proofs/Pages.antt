@@ -34,6 +34,7 @@ pages =
     record {
       counter-page = refl;
       delay-page = refl;
+      no-rows = refl;
       refused-image = refl;
       refused-net = refl;
       no-outputs = refl;

@@ -34,21 +34,23 @@ crossed =
     ++ (1 ∷ 0 ∷ 0 ∷ 0 ∷ 0 ∷ 0 ∷ [])
     ++ (0 ∷ 0 ∷ 0 ∷ 0 ∷ 0 ∷ 0 ∷ [])
 
--- 0 INPUT; 1 REG(0, start 1); 2 OUT 1, free
+-- 0 INPUT; 1 REG(0, start 1); 2 OUT 1, protected
 unfoldable pub delay : List ℕ
 delay =
     (3 ∷ 0 ∷ 1 ∷ 0 ∷ 1 ∷ 0 ∷ 1 ∷ 0 ∷ [])
     ++ (1 ∷ 2 ∷ 8 ∷ [])
     ++ (0 ∷ 0 ∷ 0 ∷ 0 ∷ 0 ∷ 0 ∷ [])
     ++ (0 ∷ 0 ∷ 1 ∷ 0 ∷ 0 ∷ 0 ∷ [])
-    ++ (1 ∷ 0 ∷ 0 ∷ 0 ∷ 0 ∷ 0 ∷ [])
+    ++ (1 ∷ 0 ∷ 1 ∷ 0 ∷ 0 ∷ 0 ∷ [])
 
 -- proved as `pages`
 pub record Pages : Type 0 where
   -- document 01's example: the counter, with rows 2, 0, 1, 0
   pub counter-page : listingText counter (2 ∷ 0 ∷ 1 ∷ 0 ∷ []) ≡ ascii "0 0 clear\n1 3 flow 5\n2 2 flow 5\n3 0 clear\nend 4\n"
-  -- the registers begin at power-up: the first cycle shows the start, 1, and each later one the row before
-  pub delay-page : listingText delay (0 ∷ 2 ∷ []) ≡ ascii "0 1 clear\n1 0 clear\nend 2\n"
+  -- a register begins with its start, and a protected OUT that is 1 and unmarked is clear
+  pub delay-page : listingText delay (2 ∷ 1 ∷ []) ≡ ascii "0 1 clear\n1 2 flow 2\nend 2\n"
+  -- with no row there is no cycle
+  pub no-rows : listingText delay [] ≡ ascii "end 0\n"
   -- an image of 0 bytes is refused, and no row is taken
   pub refused-image : listingText [] (2 ∷ 0 ∷ []) ≡ ascii "refused 1 0\n"
   -- an image with a bad net 3 is refused: the number comes first, and then the net
