@@ -1,12 +1,12 @@
--- Document 01's examples C1 to C12 hold, by computation.
+-- Document 01's examples C1 to C12, and a run of two rows, hold by computation.
 use mathlib.Core.Path.{refl}
 use Rattle.gates.specs.Rules.{value, mark, byte, andMark, orMark, xorMark, muxMark, notByte, andByte, orByte, xorByte, muxByte, gateByte}
 use Rattle.netlist.specs.Image.{sizesOf, netAt, netsFrom, netsOf, count}
-use Rattle.netlist.specs.Counter.{counter}
+use Rattle.netlist.specs.Examples.{counter, crossed}
 use Rattle.netlist.specs.Check.{netRefusal, netsRefusal, checkRefusal, badByte, badLength}
 use Rattle.tracker.specs.Cycle.{pinByte, netByte, past, walk, bytesOf, verdictFrom, outputsFrom, registers, clocked, cycleOf, cyclesOf, outputsOf, stateAfter, firstOf, firstFlow}
 use Rattle.tracker.specs.Calls.{start, starts, powerUpRefusal, powerUpOf, asRun, runRefusal, runOf}
-use Rattle.claims.specs.Examples.{counted, Examples}
+use Rattle.claims.specs.Examples.{counted, twoRows, Examples}
 
 -- what is computed with
 gating : Unit {0}
@@ -22,7 +22,7 @@ unfolding pinByte netByte past walk bytesOf verdictFrom outputsFrom registers cl
 running = tt
 
 pub examples : Examples
-unfolding gating checking running counter counted
+unfolding gating checking running counter counted crossed twoRows
 examples =
     record {
       c1 = refl;
@@ -38,4 +38,5 @@ examples =
       c11 = refl;
       c12 = refl;
       c12-flow = refl;
+      two-rows = refl;
     }

@@ -44,7 +44,7 @@ pub record Promised : Type 0 where
   pub mux-composed : MuxComposed
   -- A pin with a mark more never takes the mark of a gate away.
   pub gates-monotone : GatesMonotone
-  -- Document 01's examples C1 to C12 come out as it says.
+  -- Document 01's examples C1 to C12 come out as it says, and so does a run of two rows.
   pub examples : Examples
   -- Power-up gives each register its start, whatever the state held before.
   pub power-up-starts : PowerUpStarts

@@ -3,33 +3,60 @@ use Prim.Native.Nat.{ℕ, _+_, _*_, _/_, _%_, _≤_, _<_}
 use mathlib.Core.Path.{_≡_}
 use mathlib.Core.List.{List, [], _∷_, Forall₂, Forall₂·nil}
 use mathlib.Core.Option.{none}
+use mathlib.Core.Bool.{true}
 use lib.Dec.{lit≤}
 use lib.ListN.{length, getD}
-use Rattle.gates.specs.Kinds.{REG, OR, XOR, OUT}
-use Rattle.gates.specs.Rules.{notByte, andByte, orByte, xorByte, muxByte, gateByte}
+use Rattle.gates.specs.Kinds.{CONST, INPUT, REG, NOT, AND, OR, XOR, MUX, OUT}
+use Rattle.gates.specs.Rules.{mark, notByte, andByte, orByte, xorByte, muxByte, gateByte}
 use Rattle.gates.specs.Relations.{AgreeByte, Agree, BelowByte, equal, zero-marked}
 use Rattle.gates.specs.Meaning.{Changed}
 use Rattle.netlist.specs.declared.image.Net.{Net}
-use Rattle.netlist.specs.Image.{sizesOf, net, netsOf}
+use Rattle.netlist.specs.Image.{sizesOf, net, netsOf, count}
 use Rattle.netlist.specs.declared.answer.Refusal.{Refusal}
 use Rattle.netlist.specs.Check.{checkRefusal}
-use Rattle.tracker.specs.Cycle.{Verdict, clear, flow, cycleOf, FirstFlow}
-use Rattle.tracker.specs.Calls.{done, powerUpOf, Stepped, stepOf, stepRefusal, runOf, runRefusal}
+use Rattle.tracker.specs.Cycle.{Verdict, clear, flow, outputsFrom, cycleOf, FirstFlow}
+use Rattle.tracker.specs.Calls.{done, powerUpRefusal, powerUpOf, Stepped, stepOf, stepRefusal, runOf, runRefusal}
 use Rattle.doubling.specs.Doubled.{groupLength, groupAt, doubledSize, valueNet, markNet, doubledNets, doubledImage, doubleRefusal, doubleOf, split}
-use Rattle.claims.specs.Examples.{counted}
+use Rattle.claims.specs.Accepted.{AcceptedImage}
+use Rattle.claims.specs.Examples.{counted, twoRows}
 use Rattle.claims.specs.NetBytes.{netOf, Counted, HasByte}
 use Rattle.claims.specs.Steps.{stepsOf, outputsIn, lastState}
 use Rattle.claims.specs.Groups.{oneOfEach, theirGroups}
 use Rattle.claims.specs.Verdicts.{MarkedOutput, Judged, lowest, First, first}
-use Rattle.claims.specs.History.{Call, step, CallResult, history, cyclesIn, TurnedBack, AllMade}
+use Rattle.claims.specs.History.{Call, step, run, accepted, CallResult, history, cyclesIn, TurnedBack, AllMade}
 use Rattle.claims.specs.Pairing.{Again, step-again, shown}
-use Rattle.claims.specs.TwoRun.{SameCycle, SameCall, turned-back, finished, SameShown}
+use Rattle.claims.specs.TwoRun.{Matched, SameCycle, SameCall, turned-back, finished, SameCalls, SameShown}
 use Rattle.claims.specs.OneRun.{fromPowerUp, SameMarks, InTwo}
 use Rattle.claims.proofs.Promised.{promised}
 
 -- TERMS
-kind-numbers : (OR ≡ 5) × (XOR ≡ 6)
-kind-numbers = (promised .terms .kinds .5, promised .terms .kinds .6)
+kind-numbers : (CONST ≡ 0) × (INPUT ≡ 1) × (REG ≡ 2) × (NOT ≡ 3) × (AND ≡ 4) × (OR ≡ 5) × (XOR ≡ 6) × (MUX ≡ 7) × (OUT ≡ 8)
+kind-numbers = promised .terms .kinds
+
+one-more : (x : Net) (xs : List Net) (k : ℕ) → (x .kind ≡ k → ⊥) → (count (x .kind) (x ∷ xs) ≡ 1 + count (x .kind) xs) × (count k (x ∷ xs) ≡ count k xs)
+one-more x xs k h = (promised .terms .count-one x xs, promised .terms .count-other k x xs h)
+
+no-net : (k : ℕ) → count k [] ≡ 0
+no-net = promised .terms .count-none
+
+marks : (x : ℕ) → x ≤ 3 → mark x ≡ true → x / 2 ≡ 1
+marks x h = promised .terms .marked x h .0
+
+itself : (x : ℕ) → AgreeByte x x
+itself = promised .terms .same
+
+cycle-outputs : (xs : List Net) (row st : List ℕ) → outputsFrom 0 xs (cycleOf xs row st .bytes) ≡ cycleOf xs row st .outputs
+cycle-outputs = promised .terms .outputs
+
+doubled-size : (s : List ℕ) → doubledSize (netsOf s) ≡ valueNet (netsOf s) (sizesOf s .nets)
+doubled-size = promised .terms .size
+
+-- ACCEPTED calls
+accepted-power-up : (s st : List ℕ) → AcceptedImage s → length st ≡ sizesOf s .registers → powerUpRefusal s st ≡ none
+accepted-power-up s st a l = promised .when-accepted .power-up s st .1 (a, l)
+
+accepted-double : (s buf : List ℕ) → AcceptedImage s → doubledSize (netsOf s) ≤ 8192 → length buf ≡ 8 + 7 * doubledSize (netsOf s) → doubleRefusal s buf ≡ none
+accepted-double s buf a few l = promised .when-accepted .double s buf .1 (a, few, l)
 
 -- GATES
 gate-values : (a b : ℕ) → a ≤ 3 → b ≤ 3
@@ -55,8 +82,15 @@ more-marks = promised .gates-monotone 4 0 2 1 1 0 0 zero-marked equal equal
 agree-marks : (x y : ℕ) → x ≤ 3 → y ≤ 3 → AgreeByte x y → x / 2 ≡ y / 2
 agree-marks x y h k a = promised .relations-mean .agree x y h k .0 a .0
 
+examples : (andByte 0 2 ≡ 0) × (andByte 1 2 ≡ 2) × (andByte 2 2 ≡ 2) × (orByte 1 3 ≡ 1) × (orByte 0 3 ≡ 3) × (xorByte 1 3 ≡ 2)
+    × (muxByte 0 3 0 ≡ 0) × (muxByte 0 3 1 ≡ 3) × (muxByte 0 0 2 ≡ 0) × (muxByte 1 1 2 ≡ 3) × (muxByte 0 1 2 ≡ 2)
+examples = let e = promised .examples in (e .c1, e .c2, e .c3, e .c4, e .c5, e .c6, e .c7, e .c8, e .c9, e .c10, e .c11)
+
 counter-run : (counted .outputs ≡ 0 ∷ 3 ∷ 2 ∷ 0 ∷ []) × (counted .answer ≡ done (record { cycle = 1; verdict = flow 5 }))
 counter-run = (promised .examples .c12, promised .examples .c12-flow)
+
+two-rows : twoRows .outputs ≡ 2 ∷ 1 ∷ 0 ∷ 3 ∷ []
+two-rows = promised .examples .two-rows
 
 -- CYCLES of an accepted image
 module _ (s st : List ℕ) (h : checkRefusal s ≡ none) (l : length st ≡ sizesOf s .registers) where
@@ -182,3 +216,22 @@ steps-same s st st′ row row′ nets nets′ v q p l h = promised .steps-agree 
 
 powered : (s a : List ℕ) → checkRefusal s ≡ none → length a ≡ sizesOf s .registers → powerUpOf s a .refusal ≡ none
 powered s a h l = promised .demand3 s h [] [] Forall₂·nil .powered-up a l .0
+
+-- any two rows that agree may stand in the two lists, also with bytes above 3
+matched-steps : {r r′ b b′ : List ℕ} → Agree r r′ → length b ≡ length b′ → Matched (step r b) (step r′ b′)
+matched-steps = Matched.steps
+
+matched-runs : {k : ℕ} {r r′ b b′ : List ℕ} → Agree r r′ → length b ≡ length b′ → Matched (run k r b) (run k r′ b′)
+matched-runs = Matched.runs
+
+any-states : (s : List ℕ) (cs ds : List Call) → checkRefusal s ≡ none → Forall₂ Matched cs ds → (st st′ : List ℕ) → Agree st st′ → SameCalls s st st′ cs ds
+any-states s cs ds h m = promised .demand3 s h cs ds m .calls
+
+-- the doubled half of demand 3
+doubled-lists : (s : List ℕ) → checkRefusal s ≡ none → doubledSize (netsOf s) ≤ 8192 → (buf : List ℕ) → length buf ≡ 8 + 7 * doubledSize (netsOf s)
+    → let d = doubleOf s buf .buffer in
+    (a b a′ b′ : List ℕ) → length a ≡ sizesOf s .registers → length b ≡ sizesOf s .registers → length a′ ≡ sizesOf d .registers → length b′ ≡ sizesOf d .registers
+    → (cs ds cs′ ds′ : List Call) → Forall₂ Matched cs ds
+    → Forall₂ (Again d) (accepted s (powerUpOf s a .state) cs) cs′ → Forall₂ (Again d) (accepted s (powerUpOf s b .state) ds) ds′
+    → Forall₂ (SameShown s d) (cyclesIn (history d (powerUpOf d a′ .state) cs′)) (cyclesIn (history d (powerUpOf d b′ .state) ds′))
+doubled-lists s h few buf l a b a′ b′ p q p′ q′ cs ds cs′ ds′ m x y = promised .demand3 s h cs ds m .doubled few buf l a b a′ b′ p q p′ q′ cs′ ds′ x y .7

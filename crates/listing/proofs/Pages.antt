@@ -2,14 +2,14 @@
 use mathlib.Core.Path.{refl}
 use Rattle.gates.specs.Rules.{value, mark, byte, andMark, notByte, andByte, gateByte}
 use Rattle.netlist.specs.Image.{sizesOf, netAt, netsFrom, netsOf, count}
-use Rattle.netlist.specs.Counter.{counter}
+use Rattle.netlist.specs.Examples.{counter, crossed}
 use Rattle.netlist.specs.Check.{netRefusal, netsRefusal, checkRefusal, badByte, badLength}
 use Rattle.tracker.specs.Cycle.{pinByte, netByte, past, walk, bytesOf, verdictFrom, outputsFrom, registers, clocked, cycleOf, cyclesOf, outputsOf, stateAfter, firstOf, firstFlow}
 use Rattle.tracker.specs.Calls.{start, starts, asRun, runRefusal, runOf}
 use Rattle.listing_text.specs.Lines.{digitsUpTo, decimal, outputDigits, cycleLine, endLine, refusedLine}
 use Rattle.listing_rows.specs.Rows.{rowsUpTo}
 use Rattle.listing.specs.Listing.{linesOf, listingText}
-use Rattle.listing.specs.Pages.{badNet, oneInput, oneConst, crossed, delay, Pages}
+use Rattle.listing.specs.Pages.{badNet, oneInput, oneConst, delay, Pages}
 
 -- what is computed with
 checking : Unit {0}

@@ -2,7 +2,7 @@
 use Prim.Native.Nat.{ℕ}
 use mathlib.Core.Path.{_≡_}
 use mathlib.Core.List.{List, [], _∷_, _++_}
-use Rattle.netlist.specs.Counter.{counter}
+use Rattle.netlist.specs.Examples.{counter, crossed}
 use Rattle.listing_text.specs.Ascii.{ascii}
 use Rattle.listing.specs.Listing.{listingText}
 
@@ -23,16 +23,6 @@ oneInput = (1 ∷ 0 ∷ 1 ∷ 0 ∷ 0 ∷ 0 ∷ 0 ∷ 0 ∷ []) ++ (1 ∷ []) ++
 -- 0 CONST 1, and no other net
 unfoldable pub oneConst : List ℕ
 oneConst = (1 ∷ 0 ∷ 0 ∷ 0 ∷ 0 ∷ 0 ∷ 0 ∷ 0 ∷ []) ++ (0 ∷ []) ++ (1 ∷ 0 ∷ 0 ∷ 0 ∷ 0 ∷ 0 ∷ [])
-
--- 0 INPUT; 1 INPUT; 2 OUT 1, free; 3 OUT 0, free
-unfoldable pub crossed : List ℕ
-crossed =
-    (4 ∷ 0 ∷ 2 ∷ 0 ∷ 0 ∷ 0 ∷ 2 ∷ 0 ∷ [])
-    ++ (1 ∷ 1 ∷ 8 ∷ 8 ∷ [])
-    ++ (0 ∷ 0 ∷ 0 ∷ 0 ∷ 0 ∷ 0 ∷ [])
-    ++ (0 ∷ 0 ∷ 0 ∷ 0 ∷ 0 ∷ 0 ∷ [])
-    ++ (1 ∷ 0 ∷ 0 ∷ 0 ∷ 0 ∷ 0 ∷ [])
-    ++ (0 ∷ 0 ∷ 0 ∷ 0 ∷ 0 ∷ 0 ∷ [])
 
 -- 0 INPUT; 1 REG(0, start 1); 2 OUT 1, protected
 unfoldable pub delay : List ℕ

@@ -1,7 +1,7 @@
--- The image of a netlist, an example of one, its view, its checking, and its writing.
+-- The image of a netlist, examples of it, its view, its checking, and its writing.
 pub mod Operands
 pub mod Image
-pub mod Counter
+pub mod Examples
 pub mod Check
 pub mod View
 pub mod Writing
