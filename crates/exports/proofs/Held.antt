@@ -15,18 +15,19 @@ use Rattle.netlist.specs.Image.{sizesOf, net, netsOf, count}
 use Rattle.netlist.specs.declared.answer.Refusal.{Refusal}
 use Rattle.netlist.specs.Check.{checkRefusal}
 use Rattle.tracker.specs.Cycle.{Verdict, clear, flow, outputsFrom, cycleOf, FirstFlow}
-use Rattle.tracker.specs.Calls.{done, powerUpRefusal, powerUpOf, Stepped, stepOf, stepRefusal, runOf, runRefusal}
+use Rattle.tracker.specs.Calls.{done, powerUpRefusal, powerUpOf, Stepped, stepOf, stepRefusal, Ran, runOf, runRefusal}
 use Rattle.doubling.specs.Doubled.{groupLength, groupAt, doubledSize, valueNet, markNet, doubledNets, doubledImage, doubleRefusal, doubleOf, split}
+use Rattle.claims.specs.Reading.{twoBytes}
 use Rattle.claims.specs.Accepted.{AcceptedImage}
 use Rattle.claims.specs.Examples.{counted, twoRows}
-use Rattle.claims.specs.NetBytes.{netOf, Counted, HasByte}
+use Rattle.claims.specs.NetBytes.{netOf, placeOf, Counted, HasByte}
 use Rattle.claims.specs.Steps.{stepsOf, outputsIn, lastState}
 use Rattle.claims.specs.Groups.{oneOfEach, theirGroups}
 use Rattle.claims.specs.Verdicts.{MarkedOutput, Judged, lowest, First, first}
 use Rattle.claims.specs.History.{Call, step, run, accepted, CallResult, history, cyclesIn, TurnedBack, AllMade}
 use Rattle.claims.specs.Pairing.{Again, step-again, shown}
 use Rattle.claims.specs.TwoRun.{Matched, SameCycle, SameCall, turned-back, finished, SameCalls, SameShown}
-use Rattle.claims.specs.OneRun.{fromPowerUp, SameMarks, InTwo}
+use Rattle.claims.specs.OneRun.{fromPowerUp, clearAfter, SameMarks, StaysClear, InTwo}
 use Rattle.claims.proofs.Promised.{promised}
 
 -- TERMS
@@ -51,6 +52,14 @@ cycle-outputs = promised .terms .outputs
 doubled-size : (s : List ℕ) → doubledSize (netsOf s) ≡ valueNet (netsOf s) (sizesOf s .nets)
 doubled-size = promised .terms .size
 
+sizes-read : (s : List ℕ) → (sizesOf s .nets ≡ twoBytes s 0) × (sizesOf s .inputs ≡ twoBytes s 2) × (sizesOf s .registers ≡ twoBytes s 4) × (sizesOf s .outputs ≡ twoBytes s 6)
+sizes-read s = let r = promised .image-read s in (r .nets, r .inputs, r .registers, r .outputs)
+
+net-read : (s : List ℕ) (i : ℕ) → i < sizesOf s .nets
+    → (netOf s i .kind ≡ getD s (8 + i) 0) × (netOf s i .a ≡ twoBytes s (8 + sizesOf s .nets + 6 * i))
+    × (netOf s i .b ≡ twoBytes s (8 + sizesOf s .nets + 6 * i + 2)) × (netOf s i .c ≡ twoBytes s (8 + sizesOf s .nets + 6 * i + 4))
+net-read s i h = let r = promised .image-read s in (r .kind i h, r .a i h, r .b i h, r .c i h)
+
 -- ACCEPTED calls
 accepted-power-up : (s st : List ℕ) → AcceptedImage s → length st ≡ sizesOf s .registers → powerUpRefusal s st ≡ none
 accepted-power-up s st a l = promised .when-accepted .power-up s st .1 (a, l)
@@ -70,8 +79,12 @@ gate-marks a b h k =
     let g = promised .marks-exact in
     (g .not a b 0 h k (lit≤ tt) .0, g .and a b 0 h k (lit≤ tt) .1, g .or a b 0 h k (lit≤ tt) .0, g .xor a b 0 h k (lit≤ tt) .1)
 
-changed : {f : (a b c : ℕ) → ℕ} {a b c : ℕ} (d : Changed f a b c) → (f (d .other-a) (d .other-b) (d .other-c) % 2 ≡ f a b c % 2 → ⊥) × AgreeByte a (d .other-a)
-changed d = (d .changed, d .agree-a)
+changed : {f : (a b c : ℕ) → ℕ} {a b c : ℕ} (d : Changed f a b c)
+    → (f (d .other-a) (d .other-b) (d .other-c) % 2 ≡ f a b c % 2 → ⊥) × AgreeByte a (d .other-a) × AgreeByte b (d .other-b) × AgreeByte c (d .other-c)
+changed d = (d .changed, d .agree-a, d .agree-b, d .agree-c)
+
+mux-values : (a b c : ℕ) → a ≤ 3 → b ≤ 3 → c ≤ 3 → (c % 2 ≡ 0 → muxByte a b c % 2 ≡ a % 2) × (c % 2 ≡ 1 → muxByte a b c % 2 ≡ b % 2)
+mux-values a b c h k l = let g = promised .gate-values in (g .mux-a a b c h k l, g .mux-b a b c h k l)
 
 mux-parts : muxByte 1 1 2 ≡ orByte (andByte 1 (notByte 2)) (andByte 1 2)
 mux-parts = promised .mux-composed 1 1 2 (lit≤ tt) (lit≤ tt) (lit≤ tt)
@@ -79,8 +92,9 @@ mux-parts = promised .mux-composed 1 1 2 (lit≤ tt) (lit≤ tt) (lit≤ tt)
 more-marks : BelowByte (gateByte 4 0 1 0) (gateByte 4 2 1 0)
 more-marks = promised .gates-monotone 4 0 2 1 1 0 0 zero-marked equal equal
 
-agree-marks : (x y : ℕ) → x ≤ 3 → y ≤ 3 → AgreeByte x y → x / 2 ≡ y / 2
-agree-marks x y h k a = promised .relations-mean .agree x y h k .0 a .0
+relations : (x y : ℕ) → x ≤ 3 → y ≤ 3
+    → (AgreeByte x y → (x / 2 ≡ y / 2) × (x / 2 ≡ 0 → x % 2 ≡ y % 2)) × (BelowByte x y → (x % 2 ≡ y % 2) × (x / 2 ≤ y / 2))
+relations x y h k = let r = promised .relations-mean in (r .agree x y h k .0, r .below x y h k .0)
 
 examples : (andByte 0 2 ≡ 0) × (andByte 1 2 ≡ 2) × (andByte 2 2 ≡ 2) × (orByte 1 3 ≡ 1) × (orByte 0 3 ≡ 3) × (xorByte 1 3 ≡ 2)
     × (muxByte 0 3 0 ≡ 0) × (muxByte 0 3 1 ≡ 3) × (muxByte 0 0 2 ≡ 0) × (muxByte 1 1 2 ≡ 3) × (muxByte 0 1 2 ≡ 2)
@@ -141,8 +155,8 @@ module _ (s buf : List ℕ) (h : checkRefusal s ≡ none) (few : doubledSize (ne
   doubled-checked : checkRefusal (doubledImage s) ≡ none
   doubled-checked = promised .doubled-checks s h few
 
-  doubled-read : netsOf (doubledImage s) ≡ doubledNets (netsOf s)
-  doubled-read = promised .doubled-reads s h few .nets
+  doubled-read : (netsOf (doubledImage s) ≡ doubledNets (netsOf s)) × ((p : ℕ) → getD (doubledImage s) p 0 < 256)
+  doubled-read = let r = promised .doubled-reads s h few in (r .nets, r .bytes)
 
   places : (valueNet (netsOf s) 0 ≡ 0) × (valueNet (netsOf s) (sizesOf s .nets) ≡ sizesOf (doubledImage s) .nets)
   places = let p = promised .doubled-placed s h in (p .first, p .end)
@@ -167,8 +181,8 @@ register-pair : (s : List ℕ) (i : ℕ) → i < sizesOf s .nets → netOf s i .
     × (netOf (doubledImage s) (markNet (netsOf s) i) ≡ net REG (markNet (netsOf s) (netOf s i .a)) 0 0)
 register-pair s i l k = let u = promised .doubled-unseen s in (u .values i l k, u .marks i l k)
 
-each-group : doubledNets oneOfEach ≡ theirGroups
-each-group = promised .groups .nets
+each-group : (doubledNets oneOfEach ≡ theirGroups) × (doubledSize oneOfEach ≡ 33)
+each-group = (promised .groups .nets, promised .groups .size)
 
 xor-group : (xs : List Net) (i : ℕ) (x : Net) → x .kind ≡ 6
     → groupAt xs i x ≡ net 6 (valueNet xs (x .a)) (valueNet xs (x .b)) 0 ∷ net 5 (markNet xs (x .a)) (markNet xs (x .b)) 0 ∷ []
@@ -187,6 +201,14 @@ two-values s buf w a a′ k rows rows′ outputs outputs′ f p p′ r l h j m =
 
 a-step-again : (d row b b′ : List ℕ) → length b′ ≡ sizesOf d .nets → Again d (step row b) (step (split row) b′)
 a-step-again d row b b′ l = step-again l
+
+stays-clear : {s : List ℕ} {k : ℕ} {o o′ : Ran} → StaysClear s k o o′ → o′ .answer ≡ clearAfter k
+stays-clear c = c .answer
+
+stays-unmarked : {s : List ℕ} {k : ℕ} {o o′ : Ran} → StaysClear s k o o′
+    → (c i : ℕ) → c < k → i < sizesOf s .nets → netOf s i .kind ≡ OUT → netOf s i .b ≡ 1
+    → let j = c * sizesOf s .outputs + placeOf OUT s i in (getD (o .outputs) j 0 / 2 % 2 ≡ 0) × (getD (o .outputs) j 0 ≡ getD (o′ .outputs) j 0)
+stays-unmarked c = c .protected
 
 -- VERDICTS
 lowest-flow : {xs : List Net} {bs : List ℕ} {i : ℕ} → Judged xs bs (flow i) → MarkedOutput xs bs i × ((j : ℕ) → j < i → MarkedOutput xs bs j → ⊥)
