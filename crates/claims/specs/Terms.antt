@@ -1,4 +1,4 @@
--- The small terms by which the other statements are made, each said without its definition: so none of them can be wrong in definition and code alike.
+-- The small terms by which the other statements are made, each by what it gives and not by its definition.
 use Prim.Native.Nat.{ℕ, _+_, _/_, _≤_}
 use mathlib.Core.Logic.{_↔_}
 use mathlib.Core.Path.{_≡_}

@@ -1,4 +1,4 @@
--- Each promise that no other proof of this crate uses, used part by part: so one that is left out of the record, or loses a part, is missed here.
+-- Each promise that no other proof of this crate uses, used by its parts: so one that is left out of the record, or loses one of these parts, is missed here.
 use Prim.Native.Nat.{ℕ, _+_, _*_, _/_, _%_, _≤_, _<_}
 use mathlib.Core.Path.{_≡_}
 use mathlib.Core.List.{List, [], _∷_, Forall₂, Forall₂·nil}
