@@ -3,7 +3,8 @@
 use crate::cases::Bytes;
 use crate::generate::image;
 use crate::mix::MIXES;
-use crate::peers::{Peer, PEERS};
+use crate::peer::Peer;
+use crate::peers::PEERS;
 
 /// How many small netlists are tried.
 const SMALL: usize = 600;

@@ -1,7 +1,6 @@
 //! A call of run, as the library and every peer take it.
 
-use crate::check::check_run;
-use crate::image::Sizes;
+use tracker::Sizes;
 
 /// What a run is lent.
 pub struct Call<'a> {
@@ -17,20 +16,6 @@ pub const CLEAR: u64 = 65535;
 
 /// The cycle and the net of the first flow, if there is one.
 pub type First = Option<(usize, usize)>;
-
-/// The whole work of a peer's run: all that the call is lent is checked as the
-/// library checks it, and then `cycles` takes it. The answer is as the library's.
-#[inline]
-pub fn checked(call: Call, cycles: impl FnOnce(Call, Sizes) -> First) -> u64 {
-    let k = call.k as u64;
-    match check_run(&call) {
-        Err(refusal) => refusal,
-        Ok(sizes) => match cycles(call, sizes) {
-            Some((cycle, net)) => cycle as u64 * 65536 + net as u64,
-            None => k * 65536 + CLEAR,
-        },
-    }
-}
 
 impl Call<'_> {
     /// The row of a cycle.

@@ -2,11 +2,11 @@
 
 use std::hint::black_box;
 
+use crate::accepted::doubled_nets;
 use crate::aligned::{print, row};
 use crate::cases::Bytes;
 use crate::count::{counted, valgrind_is_there};
 use crate::generate::image;
-use crate::image::doubled_nets;
 use crate::libraries::{named, Library, LIBRARIES};
 use crate::mix::{Mix, MIXES};
 use tracker::image_length;

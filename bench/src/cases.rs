@@ -1,11 +1,11 @@
 //! The cases that are measured.
 
+use crate::accepted::accepted;
 use crate::call::Call;
 use crate::generate::{image, rows};
-use crate::image::{sizes_of, Sizes};
 use crate::mix::Mix;
-use crate::peers::Peer;
-use tracker::ffi;
+use crate::peer::Peer;
+use tracker::{ffi, Sizes};
 
 /// The seeds of the netlists and of the rows.
 const NETLIST_SEED: u64 = 1;
@@ -67,7 +67,7 @@ impl Bytes {
 
     /// An image with rows for k cycles.
     pub fn with_image(image: Vec<u8>, k: usize, seed: u64) -> Bytes {
-        let sizes = sizes_of(&image);
+        let sizes = accepted(&image).sizes();
         let mut start = vec![0; sizes.registers];
         assert_eq!(ffi::power_up(&image, &mut start), 0);
         Bytes {

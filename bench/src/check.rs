@@ -3,13 +3,9 @@
 //! An answer is the refusal's number * 2^32 + its place, as the library's.
 
 use crate::call::Call;
-use crate::image::{
-    sizes_of, u16_at, Net, Sizes, CONST, HEAD, INPUT, MOST_NETS, MUX, NOT, OUT, REG,
-};
 use crate::limits::{Limits, NO_KIND};
-
-/// A run takes at most this many cycles.
-const MOST_CYCLES: usize = 4096;
+use tracker::kinds::{AND, CONST, INPUT, MUX, NOT, OUT, REG, XOR};
+use tracker::{sizes, Image, Net, Sizes, MOST_CYCLES, MOST_NETS};
 
 /// The answer of a refusal.
 fn refusal(number: u64, place: usize) -> u64 {
@@ -18,22 +14,15 @@ fn refusal(number: u64, place: usize) -> u64 {
 
 /// Checks an image: its sizes, or one of the refusals 1 to 8.
 pub fn check(image: &[u8]) -> Result<Sizes, u64> {
-    if image.len() < HEAD {
-        return Err(refusal(1, 0));
-    }
-    let sizes = sizes_of(image);
+    let sizes = sizes(image).ok_or(refusal(1, 0))?;
     if sizes.nets == 0 || sizes.nets > MOST_NETS {
         return Err(refusal(2, 0));
     }
-    if image.len() != HEAD + 7 * sizes.nets {
-        return Err(refusal(3, 0));
-    }
+    let image = Image::of(image).ok_or(refusal(3, 0))?;
     let mut limits = Limits::new(sizes.nets);
     let mut counts = [0usize; NO_KIND + 1];
-    let (kinds, operands) = image[HEAD..].split_at(sizes.nets);
-    for (i, (kind, operands)) in kinds.iter().zip(operands.as_chunks().0).enumerate() {
-        let net = net_of(*kind, operands);
-        let kind = usize::from(*kind).min(NO_KIND);
+    for (i, net) in image.nets().enumerate() {
+        let kind = usize::from(net.kind).min(NO_KIND);
         if !limits.allow(kind, net) {
             return Err(refusal(bad_net(net, i, sizes.nets), i));
         }
@@ -47,31 +36,21 @@ pub fn check(image: &[u8]) -> Result<Sizes, u64> {
     Ok(sizes)
 }
 
-/// A net of a kind with the bytes of its operands.
-#[inline(always)]
-fn net_of(kind: u8, operands: &[u8; 6]) -> Net {
-    Net {
-        kind,
-        a: u16_at(operands, 0),
-        b: u16_at(operands, 2),
-        c: u16_at(operands, 4),
-    }
-}
-
 /// The number of the refusal 4 to 7 that net i of n draws, which is refused.
 #[cold]
 fn bad_net(net: Net, i: usize, n: usize) -> u64 {
     let below = |pin: u16, limit: usize| usize::from(pin) < limit;
     // Whether the pins name nets that they may name, and whether the settings
     // are in range.
+    let [a, b, c] = net.operands;
     let (pins, settings) = match net.kind {
-        CONST => (true, net.a <= 1),
+        CONST => (true, a <= 1),
         INPUT => (true, true),
-        REG => (below(net.a, n), net.b <= 2),
-        NOT => (below(net.a, i), true),
-        MUX => (below(net.a.max(net.b).max(net.c), i), true),
-        OUT => (below(net.a, i), net.b <= 1),
-        4..=6 => (below(net.a.max(net.b), i), true),
+        REG => (below(a, n), b <= 2),
+        NOT => (below(a, i), true),
+        AND..=XOR => (below(a.max(b), i), true),
+        MUX => (below(a.max(b).max(c), i), true),
+        OUT => (below(a, i), b <= 1),
         _ => return 4,
     };
     match (pins, settings) {

@@ -5,7 +5,8 @@ use std::hint::black_box;
 use crate::aligned::{print, row};
 use crate::cases::{Bytes, CASES};
 use crate::count::{counted, valgrind_is_there, Counts};
-use crate::peers::{named, Peer};
+use crate::peer::Peer;
+use crate::peers::named;
 
 /// The two numbers of cycles. Their difference leaves out the check of the image
 /// and what a run does once.

@@ -2,9 +2,11 @@
 //! cycle: it decodes the image first into a list of gates and short lists of
 //! inputs, registers and outputs.
 
+use crate::accepted::accepted;
 use crate::call::{Call, First};
 use crate::forms::table::TABLE;
-use crate::image::{nets_of, Sizes, CONST, INPUT, MOST_NETS, OUT, REG};
+use tracker::kinds::{CONST, INPUT, OUT, REG};
+use tracker::{Image, Sizes, MOST_NETS};
 
 /// A gate: where its codes start in the table, its pins, and its own net.
 struct Gate {
@@ -27,7 +29,7 @@ struct Program {
 /// The k cycles of an accepted run.
 pub fn cycles(mut call: Call, z: Sizes) -> First {
     let mut nets = [0u8; MOST_NETS];
-    let program = decode(call.image, &mut nets);
+    let program = decode(accepted(call.image), &mut nets);
     let mut first = None;
     for cycle in 0..call.k {
         fill(&program, call.row(z, cycle), call.state, &mut nets);
@@ -47,24 +49,25 @@ pub fn cycles(mut call: Call, z: Sizes) -> First {
 }
 
 /// Decodes an accepted image, and sets the nets of its CONSTs.
-fn decode(image: &[u8], nets: &mut [u8; MOST_NETS]) -> Program {
+fn decode(image: Image, nets: &mut [u8; MOST_NETS]) -> Program {
     let mut program = Program::default();
-    for (i, net) in nets_of(image).into_iter().enumerate() {
+    for (i, net) in image.nets().enumerate() {
         let number = i as u16;
+        let [a, b, _] = net.operands;
         match net.kind {
-            CONST => nets[i] = net.a as u8,
+            CONST => nets[i] = a as u8,
             INPUT => program.inputs.push(number),
-            REG => program.registers.push((number, net.a)),
+            REG => program.registers.push((number, a)),
             _ => program.gates.push(Gate {
                 codes: u16::from(net.kind) * 64,
-                pins: [net.a, net.b, net.c],
+                pins: net.operands,
                 net: number,
             }),
         }
         if net.kind == OUT {
             program.outputs.push(number);
         }
-        if net.kind == OUT && net.b == 1 {
+        if net.kind == OUT && b == 1 {
             program.protected.push(number);
         }
     }
@@ -84,7 +87,7 @@ fn fill(program: &Program, row: &[u8], state: &[u8], nets: &mut [u8; MOST_NETS])
 /// The bytes of all gates and OUTs.
 fn work_out(gates: &[Gate], nets: &mut [u8; MOST_NETS]) {
     for gate in gates {
-        let [a, b, c] = gate.pins.map(|pin| usize::from(pin));
+        let [a, b, c] = gate.pins.map(usize::from);
         // SAFETY: all pins and nets are below N, which is at most 8,192, and
         // all bytes are below 4.
         unsafe {

@@ -1,15 +1,13 @@
 //! Random netlists and rows.
 
-use crate::image::{image_of, Net, CONST, INPUT, MUX, NOT, OUT, REG};
-use crate::mix::Mix;
+use crate::mix::{Mix, PROTECTED};
 use crate::random::Random;
 use crate::real::real_net;
+use tracker::kinds::{CONST, INPUT, MUX, NOT, OUT, REG};
+use tracker::{encode, Net};
 
 /// The nets at the start that are no gates, so that pins have something to name.
 const SOURCES: usize = 8;
-
-/// The OUTs in 100 that are protected.
-pub const PROTECTED: usize = 25;
 
 /// The row bytes in 100 that are marked.
 const MARKED: usize = 25;
@@ -29,11 +27,11 @@ pub fn image(mix: Mix, n: usize, seed: u64, protect: bool) -> Vec<u8> {
             unread.take_pin(&mut net, i);
         }
         if net.kind == OUT && !protect {
-            net.b = 0;
+            net.operands[1] = 0;
         }
         nets.push(net);
     }
-    image_of(&nets)
+    encode(&nets)
 }
 
 /// Net i of n, in a mix in random order.
@@ -49,7 +47,7 @@ fn mixed_net(random: &mut Random, mix: Mix, n: usize, i: usize) -> Net {
         OUT => (pin(i), u16::from(random.chance(PROTECTED)), 0),
         _ => (pin(i), pin(i), 0),
     };
-    Net { kind, a, b, c }
+    Net::new(kind, a, b, c)
 }
 
 /// The kind of net i. Net 0 is an INPUT.
@@ -91,9 +89,9 @@ impl Unread {
             self.oldest += 1;
         }
         if self.oldest < i {
-            net.a = self.oldest as u16;
+            net.operands[0] = self.oldest as u16;
         }
-        for pin in [net.a, net.b, net.c] {
+        for pin in net.operands {
             self.read[usize::from(pin)] = true;
         }
         self.read[i] = net.kind == OUT;

@@ -8,12 +8,14 @@ use std::fs;
 use std::io;
 use std::path::Path;
 
+use crate::accepted::accepted;
 use crate::cases::Bytes;
 use crate::generate::image;
-use crate::image::{nets_of, CONST, INPUT, MUX, NOT, OUT, REG};
 use crate::mix::Mix;
 use crate::peers::PEERS;
 use crate::verilog::{net, top, MuxAs};
+use tracker::kinds::{CONST, INPUT, MUX, NOT, OUT, REG};
+use tracker::{Image, Net};
 
 /// Writes the files of one netlist into a folder.
 pub fn write_files(mix: Mix, nets: usize, seed: u64, k: usize, folder: &Path) -> io::Result<()> {
@@ -23,11 +25,11 @@ pub fn write_files(mix: Mix, nets: usize, seed: u64, k: usize, folder: &Path) ->
     let answer = bytes.run(PEERS[0], k, &mut state, &mut outputs);
     assert!(answer >> 32 == 0, "the library turned the run back");
     let z = bytes.sizes;
-    let image = &bytes.image;
+    let image = accepted(&bytes.image);
     fs::write(folder.join("net.v"), net(image, MuxAs::Gates))?;
     fs::write(folder.join("net-mux.v"), net(image, MuxAs::Cell))?;
     fs::write(folder.join("top.v"), top(image))?;
-    fs::write(folder.join("image.bin"), image)?;
+    fs::write(folder.join("image.bin"), &bytes.image)?;
     fs::write(folder.join("rows.bin"), &bytes.rows)?;
     fs::write(folder.join("rows.hex"), vectors(&bytes.rows, z.inputs, k))?;
     fs::write(folder.join("outputs.hex"), vectors(&outputs, z.outputs, k))?;
@@ -80,22 +82,22 @@ fn vector(bytes: &[u8]) -> String {
 
 /// How many nets an OUT or a REG's pin depends on within a cycle. Compilers leave
 /// out the others.
-pub fn needed(image: &[u8]) -> usize {
-    let nets = nets_of(image);
+pub fn needed(image: Image) -> usize {
+    let nets: Vec<Net> = image.nets().collect();
     let mut needed = vec![false; nets.len()];
     for net in nets.iter().filter(|net| net.kind == REG) {
-        needed[usize::from(net.a)] = true;
+        needed[usize::from(net.operands[0])] = true;
     }
     for (i, net) in nets.iter().enumerate().rev() {
         needed[i] |= net.kind == OUT;
-        let pins: &[u16] = match net.kind {
-            _ if !needed[i] => &[],
-            CONST | INPUT | REG => &[],
-            NOT | OUT => &[net.a],
-            MUX => &[net.a, net.b, net.c],
-            _ => &[net.a, net.b],
+        let pins = match net.kind {
+            _ if !needed[i] => 0,
+            CONST | INPUT | REG => 0,
+            NOT | OUT => 1,
+            MUX => 3,
+            _ => 2,
         };
-        for pin in pins {
+        for pin in &net.operands[..pins] {
             needed[usize::from(*pin)] = true;
         }
     }

@@ -2,7 +2,7 @@
 
 use crate::call::{Call, First, CLEAR};
 use crate::forms::table::TABLE;
-use crate::image::Sizes;
+use tracker::Sizes;
 
 extern "C" {
     fn lists_cycles(
@@ -22,5 +22,5 @@ pub fn cycles(call: Call, _: Sizes) -> First {
     // SAFETY: the image, the state and the rows have been accepted.
     let first = unsafe { lists_cycles(image, table, call.k, state, rows, outputs) };
     let (cycle, net) = (first >> 16, first & 0xffff);
-    (net != CLEAR).then(|| (cycle as usize, net as usize))
+    (net != CLEAR).then_some((cycle as usize, net as usize))
 }

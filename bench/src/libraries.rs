@@ -6,15 +6,30 @@ use tracker::ffi;
 #[cfg(other)]
 use crate::other;
 
+/// A check: the image.
+type Check = fn(&[u8]) -> u64;
+
+/// A power-up: the image and the state.
+type PowerUp = fn(&[u8], &mut [u8]) -> u64;
+
+/// A step: the image, the state, the row and the nets.
+type Step = fn(&[u8], &mut [u8], &[u8], &mut [u8]) -> u64;
+
+/// A run: the image, k, the state, the rows and the outputs.
+type Run = fn(&[u8], usize, &mut [u8], &[u8], &mut [u8]) -> u64;
+
+/// A doubling: the image and the buffer.
+type Double = fn(&[u8], &mut [u8]) -> u64;
+
 /// The calls of one build.
 #[derive(Clone, Copy)]
 pub struct Library {
     pub name: &'static str,
-    pub check: fn(&[u8]) -> u64,
-    pub power_up: fn(&[u8], &mut [u8]) -> u64,
-    pub step: fn(&[u8], &mut [u8], &[u8], &mut [u8]) -> u64,
-    pub run: fn(&[u8], usize, &mut [u8], &[u8], &mut [u8]) -> u64,
-    pub double: fn(&[u8], &mut [u8]) -> u64,
+    pub check: Check,
+    pub power_up: PowerUp,
+    pub step: Step,
+    pub run: Run,
+    pub double: Double,
 }
 
 /// The library first, then the other build.

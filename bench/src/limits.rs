@@ -1,7 +1,7 @@
 //! The limits of a net's operands, by its kind, so that a net is checked without a
 //! branch on the kind.
 
-use crate::image::Net;
+use tracker::Net;
 
 /// What stands for all numbers that are no kind.
 pub const NO_KIND: usize = 9;
@@ -48,7 +48,8 @@ impl Limits {
     /// Whether the operands of a net of a kind are below their limits.
     #[inline(always)]
     pub fn allow(&self, kind: usize, net: Net) -> bool {
-        let [a, b, c] = OF_KIND[kind].map(|place| self.0[place % 8]);
-        (net.a < a) & (net.b < b) & (net.c < c)
+        let limits = OF_KIND[kind].map(|place| self.0[place % 8]);
+        let [a, b, c] = net.operands;
+        (a < limits[0]) & (b < limits[1]) & (c < limits[2])
     }
 }

@@ -4,9 +4,9 @@
 use std::hint::black_box;
 use std::time::Instant;
 
+use crate::accepted::doubled_nets;
 use crate::aligned::{print, row};
 use crate::generate::image;
-use crate::image::doubled_nets;
 use crate::libraries::{Library, LIBRARIES};
 use crate::mix::Mix;
 use crate::rounds::low_and_median;

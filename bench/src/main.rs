@@ -7,19 +7,20 @@
 //! `count ..`: work for valgrind to count. `netlist MIX NETS SEED CYCLES FOLDER`
 //! and `listing MIX NETS SEED ROWS FOLDER`: files for the hardware tools.
 
+mod accepted;
 mod agree;
 mod aligned;
 mod call;
 mod calls;
 mod cases;
 mod check;
+mod checked;
 mod count;
 mod counting;
 mod decoded;
 mod forms;
 mod generate;
 mod hardware;
-mod image;
 #[cfg(c_peer)]
 mod in_c;
 mod libraries;
@@ -30,6 +31,7 @@ mod mix;
 mod once;
 #[cfg(other)]
 mod other;
+mod peer;
 mod peers;
 mod plain;
 mod random;

@@ -1,5 +1,8 @@
 //! How the kinds of a random netlist's nets are mixed, and in what order.
 
+/// The OUTs in 100 that are protected, in every mix.
+pub const PROTECTED: usize = 25;
+
 /// A mix of kinds.
 #[derive(Clone, Copy, PartialEq)]
 pub enum Mix {

@@ -8,7 +8,8 @@ use crate::aligned::{print, row};
 use crate::cases::{Bytes, Case};
 use crate::count::{counted, valgrind_is_there};
 use crate::mix::{Mix, MIXES};
-use crate::peers::{named, Peer};
+use crate::peer::Peer;
+use crate::peers::named;
 use crate::rounds::{low_and_median, ratio};
 
 /// The numbers of nets.

@@ -1,18 +1,13 @@
 //! The library and its peers, all with the same call.
 
-use crate::call::{checked, Call};
+use crate::call::Call;
+use crate::checked::checked;
 use crate::forms::{self, BRANCHES, ENTRIES, LISTS};
+use crate::peer::Peer;
 use crate::{decoded, libraries, plain};
 
 #[cfg(c_peer)]
 use crate::in_c;
-
-/// Something that runs an image.
-#[derive(Clone, Copy)]
-pub struct Peer {
-    pub name: &'static str,
-    pub run: fn(Call) -> u64,
-}
 
 /// The library and, where they are there, the other build and the peer in C; then
 /// the peers in Rust that are compared with it.

@@ -1,8 +1,9 @@
 //! The mix "real": a netlist in the order in which tools write it.
 
-use crate::generate::PROTECTED;
-use crate::image::{Net, INPUT, MUX, NOT, OUT, REG};
+use crate::mix::PROTECTED;
 use crate::random::Random;
+use tracker::kinds::{INPUT, MUX, NOT, OUT, REG};
+use tracker::Net;
 
 /// The INPUTs, REGs and OUTs in 100 nets. All others are gates.
 const INPUTS: usize = 4;
@@ -48,8 +49,8 @@ pub fn real_net(random: &mut Random, n: usize, i: usize) -> Net {
 }
 
 fn net(kind: u8, operands: [usize; 3]) -> Net {
-    let [a, b, c] = operands.map(|operand| operand as u16);
-    Net { kind, a, b, c }
+    let operands = operands.map(|operand| operand as u16);
+    Net { kind, operands }
 }
 
 /// A gate, or net 0 where there is none.

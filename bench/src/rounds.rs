@@ -5,7 +5,7 @@ use std::hint::black_box;
 use std::time::Instant;
 
 use crate::cases::Bytes;
-use crate::peers::Peer;
+use crate::peer::Peer;
 
 /// The nanoseconds of each peer for each net and cycle, in each round:
 /// `times[peer][round]`.

@@ -3,7 +3,7 @@
 use crate::agree::assert_agree;
 use crate::aligned::{print, row};
 use crate::cases::{Bytes, CASES};
-use crate::peers::Peer;
+use crate::peer::Peer;
 use crate::rounds::{low_and_median, ratio, rounds};
 
 /// About how many nets a timed run works out, over all its cycles. A run takes a

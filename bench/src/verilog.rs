@@ -5,7 +5,8 @@
 //! kinds that the pass `glift` of yosys knows, and all ports have one bit, since
 //! the pass takes whole wires only.
 
-use crate::image::{nets_of, sizes_of, Net, Sizes, AND, CONST, INPUT, MUX, NOT, OR, OUT, REG};
+use tracker::kinds::{AND, CONST, INPUT, MUX, NOT, OR, OUT, REG};
+use tracker::{Image, Net, Sizes};
 
 /// A port of `net`, one for each INPUT, REG or OUT.
 struct Port {
@@ -39,15 +40,15 @@ pub enum MuxAs {
 }
 
 /// The module `net` of an accepted image.
-pub fn net(image: &[u8], mux_as: MuxAs) -> String {
+pub fn net(image: Image, mux_as: MuxAs) -> String {
     let mut names = Vec::new();
-    for port in ports(sizes_of(image)) {
+    for port in ports(image.sizes()) {
         let one = |i: usize| format!("{} {}{i}", port.direction, port.name);
         names.extend((0..port.count).map(one));
     }
     let mut text = format!("module net({});\n", names.join(",\n"));
     let mut counts = [0; 9];
-    for (number, net) in nets_of(image).into_iter().enumerate() {
+    for (number, net) in image.nets().enumerate() {
         let place = &mut counts[usize::from(net.kind)];
         text += &net_text(number, net, *place, mux_as);
         *place += 1;
@@ -57,17 +58,17 @@ pub fn net(image: &[u8], mux_as: MuxAs) -> String {
 
 /// One net. `place` is its number among the nets of its kind.
 fn net_text(n: usize, net: Net, place: usize, mux_as: MuxAs) -> String {
-    let Net { kind, a, b, c } = net;
+    let [a, b, _] = net.operands;
     let wire = format!("wire n{n};");
-    match kind {
+    match net.kind {
         CONST => format!("{wire} assign n{n} = 1'b{a};\n"),
         INPUT => format!("{wire} assign n{n} = in{place};\n"),
         REG => format!("{wire} assign n{n} = q{place}; assign d{place} = n{a};\n"),
         NOT => format!("{wire} \\$_NOT_ g{n} (.A(n{a}), .Y(n{n}));\n"),
-        MUX => mux_text(n, [a, b, c], mux_as),
+        MUX => mux_text(n, net.operands, mux_as),
         OUT => format!("{wire} assign n{n} = n{a}; assign out{place} = n{n};\n"),
         _ => {
-            let cell = cell(kind);
+            let cell = cell(net.kind);
             format!("{wire} \\{cell} g{n} (.A(n{a}), .B(n{b}), .Y(n{n}));\n")
         }
     }
@@ -96,11 +97,11 @@ fn mux_text(n: usize, [a, b, c]: [u16; 3], mux_as: MuxAs) -> String {
 
 /// The module `top`: `net` as the pass leaves it, with a mark beside each value,
 /// and its ports gathered to vectors of one bit at least.
-pub fn top(image: &[u8]) -> String {
+pub fn top(image: Image) -> String {
     let mut vectors = Vec::new();
     let mut pins = Vec::new();
     let mut rest = String::new();
-    for port in ports(sizes_of(image)) {
+    for port in ports(image.sizes()) {
         for name in [port.name.to_string(), format!("{}_t", port.name)] {
             let mark = name.strip_prefix(port.name).unwrap_or("");
             let high = port.count.max(1) - 1;

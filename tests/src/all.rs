@@ -1,6 +1,8 @@
 //! All small netlists, and all short lists of bytes.
 
-use crate::nets::{listed_of, pins_of, setting_of, Net, CONST, OUT, REG};
+use crate::listed::{listed_of, pins_of, setting_of};
+use tracker::kinds::{CONST, OUT, REG};
+use tracker::Net;
 
 /// The good nets with the numbers 0 to `count` - 1 in netlists of `size` nets, one
 /// choice for each number, by a place among all `ways` to choose.
@@ -36,7 +38,7 @@ pub fn all_bytes(length: usize) -> Vec<Vec<u8>> {
 pub fn all_nets(number: usize, size: usize) -> Vec<Net> {
     let mut nets = Vec::new();
     for kind in CONST..=OUT {
-        for [a, b, c] in all_operands(size.max(3)) {
+        for [a, b, c] in all_operands(size.max(3) as u16) {
             let net = Net::new(kind, a, b, c);
             if is_good(&net, number, size) {
                 nets.push(net);
@@ -47,7 +49,7 @@ pub fn all_nets(number: usize, size: usize) -> Vec<Net> {
 }
 
 /// All triples of operands below a limit.
-fn all_operands(limit: usize) -> Vec<[usize; 3]> {
+fn all_operands(limit: u16) -> Vec<[u16; 3]> {
     let mut triples = Vec::new();
     for a in 0..limit {
         for b in 0..limit {

@@ -113,19 +113,22 @@ impl Call {
 
     /// The call in words: its function, k and the lengths of its buffers.
     pub fn in_words(&self, image: &[u8]) -> String {
-        let mut words = format!("{}, image of {} bytes", self.name.function(), image.len());
+        let mut words = vec![
+            String::from(self.name.function()),
+            format!("image of {} bytes", image.len()),
+        ];
         if self.name == Name::Run {
-            words += &format!(", k {}", self.k);
+            words.push(format!("k {}", self.k));
         }
         if self.name.has_state() {
-            words += &format!(", state of {}", self.state.len());
+            words.push(format!("state of {}", self.state.len()));
         }
         if self.name.has_rows() {
-            words += &format!(", {} of {}", self.name.rows(), self.rows.len());
+            words.push(format!("{} of {}", self.name.rows(), self.rows.len()));
         }
         if self.name.has_filled() {
-            words += &format!(", {} of {}", self.name.filled(), self.filled.len());
+            words.push(format!("{} of {}", self.name.filled(), self.filled.len()));
         }
-        words
+        words.join(", ")
     }
 }

@@ -2,8 +2,8 @@
 //! follow.
 
 use crate::call::{Call, Name};
-use crate::cycles::MOST_CYCLES;
-use crate::nets::{image_length, sizes_of, Net, GROUPS, MOST_NETS, OUT};
+use tracker::kinds::OUT;
+use tracker::{image_length, Net, Sizes, GROUP_LENGTHS, MOST_CYCLES, MOST_NETS};
 
 #[derive(Clone, Debug)]
 pub struct Counts {
@@ -22,17 +22,17 @@ pub struct Counts {
 
 impl Counts {
     pub fn of(nets: &[Net]) -> Counts {
-        let [_, inputs, registers, outputs] = sizes_of(nets).map(usize::from);
+        let sizes = Sizes::of(nets);
         let outs = (0..nets.len()).filter(|number| nets[*number].kind == OUT);
         let mut groups = vec![0];
         for net in nets {
-            groups.push(groups[groups.len() - 1] + GROUPS[usize::from(net.kind)]);
+            groups.push(groups[groups.len() - 1] + GROUP_LENGTHS[usize::from(net.kind)]);
         }
         Counts {
-            nets: nets.len(),
-            inputs,
-            registers,
-            outputs,
+            nets: sizes.nets,
+            inputs: sizes.inputs,
+            registers: sizes.registers,
+            outputs: sizes.outputs,
             doubled: groups[nets.len()],
             outs: outs.collect(),
             groups,

@@ -2,9 +2,7 @@
 //! narrower type would take for good ones.
 
 use crate::random::Random;
-
-/// The largest number of cycles of a run.
-pub const MOST_CYCLES: usize = 4096;
+use tracker::MOST_CYCLES;
 
 /// Numbers of cycles at the limits of a run and of machine words.
 pub const NOTED: [usize; 12] = [
@@ -34,7 +32,7 @@ pub fn few(random: &mut Random) -> usize {
 /// A number of cycles above 4,096 that becomes `k` when its high bits are lost.
 pub fn with_high_bits(random: &mut Random, k: usize) -> usize {
     let high = random.pick(&[16, 16, 17, 31, 32, 33, 48, 62, 63]);
-    k | 1 << high
+    k | (1 << high)
 }
 
 /// A number of cycles above 4,096 whose product with `count`, which is not 0,
@@ -51,8 +49,8 @@ pub fn wrapping(random: &mut Random, count: usize) -> usize {
     // count is the same number after the wrap. For an odd count that would be
     // k + 2^64, so another large number is taken.
     match twos {
-        0 => k | 1 << 63,
-        _ => k | 1 << (64 - twos),
+        0 => k | (1 << 63),
+        _ => k | (1 << (64 - twos)),
     }
 }
 

@@ -4,7 +4,8 @@ use crate::call::Call;
 use crate::case::Case;
 use crate::counts::Counts;
 use crate::failure::Failure;
-use crate::nets::decode;
+use tracker::kinds::OUT;
+use tracker::{Image, Net};
 
 /// The doubled image and its counts.
 pub struct Doubled {
@@ -21,7 +22,7 @@ pub fn double(case: &mut Case, image: &[u8], counts: &Counts) -> Result<Doubled,
         return Err(case.broken(image, &double, answer, "a good image is doubled"));
     }
     let checked = case.ask(&double.filled, &mut Call::check())?;
-    let nets = match decode(&double.filled) {
+    let nets = match nets_of(&double.filled) {
         Some(nets) if checked == 0 => nets,
         _ => return Err(case.broken(image, &double, answer, "a doubled image is accepted")),
     };
@@ -36,6 +37,12 @@ pub fn double(case: &mut Case, image: &[u8], counts: &Counts) -> Result<Doubled,
         image: double.filled,
         counts: twice,
     })
+}
+
+/// The nets of an image of the right length, if all its kinds are kinds.
+fn nets_of(image: &[u8]) -> Option<Vec<Net>> {
+    let nets: Vec<Net> = Image::of(image)?.nets().collect();
+    nets.iter().all(|net| net.kind <= OUT).then_some(nets)
 }
 
 /// Row bytes for the doubled netlist: each byte v + 2 x t becomes v and t.

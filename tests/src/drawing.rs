@@ -3,8 +3,9 @@
 use crate::bytes::{resize, spoil, tracked};
 use crate::call::{Call, Name};
 use crate::counts::Counts;
-use crate::cycles::{few, with_high_bits, wrapping, MOST_CYCLES, NOTED};
+use crate::cycles::{few, with_high_bits, wrapping, NOTED};
 use crate::random::Random;
+use tracker::MOST_CYCLES;
 
 /// A step on a random row, with right lengths. The buffer holds any bytes.
 pub fn step(random: &mut Random, counts: &Counts, state: &[u8]) -> Call {

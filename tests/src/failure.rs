@@ -33,7 +33,7 @@ impl Failure {
     /// The command that runs this case alone.
     pub fn command(&self) -> String {
         format!(
-            "TRACKER_CASE={}:{} cargo test --manifest-path tests/Cargo.toml one_case -- --nocapture",
+            "TRACKER_CASE={}:{} cargo test --offline -p tests one_case -- --nocapture",
             self.family, self.seed
         )
     }

@@ -3,11 +3,10 @@
 //! Each puts in what its refusal is for. Where several faults meet, or where a
 //! fault has side effects, the reference says which refusal comes first.
 
-use crate::nets::{
-    encode_with, image_length, listed_of, pins_of, setting_of, sizes_of, Net, AND, CONST, INPUT,
-    MOST_NETS, MUX, NOT, OR, OUT, REG, XOR,
-};
+use crate::listed::{listed_of, pins_of, setting_of};
 use crate::random::Random;
+use tracker::kinds::{AND, CONST, INPUT, MUX, NOT, OR, OUT, REG, XOR};
+use tracker::{encode_with, image_length, Net, Sizes, MOST_NETS};
 
 /// A fault: the refusal that it is for, and the net where it is put. The net is
 /// of no account for 1, 2, 3 and 8.
@@ -20,12 +19,12 @@ pub struct Fault {
 /// The image of a good netlist with these faults in it.
 pub fn damaged(random: &mut Random, nets: &[Net], faults: &[Fault]) -> Vec<u8> {
     let mut nets = nets.to_vec();
-    let mut sizes = sizes_of(&nets);
+    let mut sizes = Sizes::of(&nets);
     for fault in faults {
         let net = &mut nets[fault.net];
         match fault.number {
             4 => net.kind = bad_kind(random, net.kind),
-            5 => put_bad_pin(random, net, fault.net, usize::from(sizes[0])),
+            5 => put_bad_pin(random, net, fault.net, sizes.nets),
             6 => put_bad_setting(random, net),
             7 => put_unlisted(random, net),
             8 => put_wrong_count(random, &mut sizes),
@@ -102,32 +101,33 @@ fn put_unlisted(random: &mut Random, net: &mut Net) {
 }
 
 /// Makes I, R or O wrong, or swaps two of them.
-fn put_wrong_count(random: &mut Random, sizes: &mut [u16; 4]) {
-    let index = random.between(1, 3);
-    let right = sizes[index];
-    sizes[index] = match random.below(6) {
-        0 => right.wrapping_sub(1),
-        1 => right.wrapping_add(1),
-        2 => right ^ 256,
-        3 => 65_535 - right,
-        4 => random.below(65_536) as u16,
-        _ => {
-            let other = random.between(1, 3);
-            sizes.swap(index, other);
-            return;
-        }
-    };
+fn put_wrong_count(random: &mut Random, sizes: &mut Sizes) {
+    let mut counts = [sizes.inputs, sizes.registers, sizes.outputs];
+    let index = random.below(3);
+    let right = counts[index];
+    match random.below(6) {
+        0 => counts[index] = (right + 65_535) % 65_536,
+        1 => counts[index] = (right + 1) % 65_536,
+        2 => counts[index] = right ^ 256,
+        3 => counts[index] = 65_535 - right,
+        4 => counts[index] = random.below(65_536),
+        _ => counts.swap(index, random.below(3)),
+    }
+    [sizes.inputs, sizes.registers, sizes.outputs] = counts;
 }
 
 /// Makes N 0 or larger than 8,192. The length may be right for that N.
 fn put_bad_size(random: &mut Random, image: &mut Vec<u8>) {
-    if image.len() < 8 {
-        return;
-    }
+    let sizes = match tracker::sizes(image) {
+        Some(sizes) => sizes,
+        None => return,
+    };
     let any = random.between(MOST_NETS + 1, 65_535);
-    let high_bit = usize::from(image[0]) + 256 * usize::from(image[1]) + 32_768;
+    let high_bit = sizes.nets + 32_768;
     let size = random.pick(&[0, 8193, 8194, 16_384, 32_768, 65_535, any, high_bit]);
-    image[..2].copy_from_slice(&(size as u16).to_le_bytes());
+    let nets = size % 65_536;
+    let head = Sizes { nets, ..sizes }.to_bytes();
+    image[..head.len()].copy_from_slice(&head);
     if size <= 8194 && random.chance(1, 2) {
         image.resize(image_length(size), 0);
     }

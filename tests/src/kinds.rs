@@ -1,7 +1,7 @@
 //! Lists of kinds from which netlists are made: many mixes, in many orders.
 
-use crate::nets::{CONST, INPUT, NOT, OUT, REG};
 use crate::random::Random;
+use tracker::kinds::{CONST, INPUT, NOT, OUT, REG};
 
 /// Shares of the kinds CONST, INPUT, REG, NOT, AND, OR, XOR, MUX, OUT.
 type Mix = [usize; 9];

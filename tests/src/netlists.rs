@@ -1,9 +1,10 @@
 //! Random netlists that draw no refusal.
 
 use crate::kinds;
-use crate::nets::{Net, CONST, GROUPS, INPUT, MOST_NETS, MUX, OUT, REG};
 use crate::pins::{draw_net, Style};
 use crate::random::Random;
+use tracker::kinds::{CONST, INPUT, MUX, OUT, REG};
+use tracker::{Net, GROUP_LENGTHS, MOST_NETS};
 
 /// A netlist of so many nets, at least 1.
 pub fn of_size(random: &mut Random, size: usize) -> Vec<Net> {
@@ -21,7 +22,7 @@ pub fn of_kinds(random: &mut Random, kinds: &[u8]) -> Vec<Net> {
     for (number, kind) in kinds.iter().enumerate() {
         nets.push(draw_net(random, style, *kind, number, kinds.len()));
     }
-    if nets.len() > 1 && GROUPS[usize::from(nets[1].kind)] == 2 && random.chance(1, 8) {
+    if nets.len() > 1 && GROUP_LENGTHS[usize::from(nets[1].kind)] == 2 && random.chance(1, 8) {
         nets[1] = Net::new(OUT, 0, 1, 0);
     }
     nets
@@ -63,15 +64,15 @@ pub fn of_doubled_size(random: &mut Random, doubled: usize) -> Vec<Net> {
     let mut left = doubled - 2;
     if left % 2 == 1 {
         rest.push(MUX);
-        left -= GROUPS[usize::from(MUX)];
+        left -= GROUP_LENGTHS[usize::from(MUX)];
     }
     while left > 0 {
         let kind = random.below(9);
         // Group lengths are even but for a MUX, of which two are taken at once.
         let times = if kind == usize::from(MUX) { 2 } else { 1 };
-        if times * GROUPS[kind] <= left {
+        if times * GROUP_LENGTHS[kind] <= left {
             rest.extend(vec![kind as u8; times]);
-            left -= times * GROUPS[kind];
+            left -= times * GROUP_LENGTHS[kind];
         }
     }
     shuffle(random, &mut rest);

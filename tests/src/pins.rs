@@ -1,7 +1,9 @@
 //! Good operands for a net of a given kind.
 
-use crate::nets::{listed_of, pins_of, setting_of, Net, OUT, REG};
+use crate::listed::{listed_of, pins_of, setting_of};
 use crate::random::Random;
+use tracker::kinds::{OUT, REG};
+use tracker::Net;
 
 /// How the pins of a netlist are drawn.
 #[derive(Clone, Copy)]

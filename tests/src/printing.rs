@@ -5,11 +5,9 @@ const MOST_SHOWN: usize = 8192;
 
 /// The bytes in hexadecimal, without spaces.
 pub fn hex(bytes: &[u8]) -> String {
-    let mut text = String::with_capacity(2 * bytes.len());
-    for byte in bytes {
-        text += &format!("{byte:02x}");
-    }
-    text
+    let digit = |four: u8| char::from(b"0123456789abcdef"[usize::from(four)]);
+    let digits = bytes.iter().flat_map(|byte| [byte / 16, byte % 16]);
+    digits.map(digit).collect()
 }
 
 /// The bytes in hexadecimal, or the first of them with a note.

@@ -71,7 +71,7 @@ impl fmt::Display for Tally {
 /// place.
 fn length_of_places(image: &[u8], call: &Call, number: usize) -> Option<usize> {
     match number {
-        4..=7 => Some((image.len() - 8) / 7),
+        4..=7 => tracker::sizes(image).map(|sizes| sizes.nets),
         11 => Some(call.state.len()),
         13 => Some(call.rows.len()),
         _ => None,

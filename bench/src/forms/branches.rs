@@ -3,10 +3,11 @@
 //! outputs and the clock.
 
 use super::passes::{clock, lowest, verdict, write_outputs};
-use super::read::{kind, operand, operands};
+use super::read::{kind, operand};
 use super::table::TABLE;
 use crate::call::{Call, First};
-use crate::image::{Sizes, INPUT, MOST_NETS, NOT, OUT, REG};
+use tracker::kinds::{INPUT, NOT, OUT, REG};
+use tracker::{Sizes, MOST_NETS};
 
 /// The k cycles of an accepted run.
 pub fn cycles(mut call: Call, z: Sizes) -> First {
@@ -31,10 +32,9 @@ pub fn cycles(mut call: Call, z: Sizes) -> First {
 
 /// The bytes of all nets.
 pub unsafe fn work_out(image: *const u8, n: usize, row: &[u8], state: &[u8], nets: &mut [u8]) {
-    let pins = operands(image, n);
     let (mut inputs, mut registers) = (row.as_ptr(), state.as_ptr());
     for i in 0..n {
-        let read = |k: usize| usize::from(*nets.get_unchecked(operand(pins, i, k)));
+        let read = |k: usize| usize::from(*nets.get_unchecked(operand(image, n, i, k)));
         let kind = kind(image, i);
         let byte = if kind >= NOT {
             let index = ((usize::from(kind) * 4 + read(0)) * 4 + read(1)) * 4 + read(2);
@@ -46,7 +46,7 @@ pub unsafe fn work_out(image: *const u8, n: usize, row: &[u8], state: &[u8], net
             registers = registers.add(1);
             *registers.sub(1)
         } else {
-            operand(pins, i, 0) as u8
+            operand(image, n, i, 0) as u8
         };
         *nets.get_unchecked_mut(i) = byte;
     }

@@ -8,7 +8,7 @@ use super::branches;
 use super::passes::{clock, verdict, write_outputs};
 use super::walk::{walk, Buffers};
 use crate::call::{Call, First};
-use crate::image::Sizes;
+use tracker::Sizes;
 
 /// The k cycles of an accepted run.
 pub fn cycles(mut call: Call, z: Sizes) -> First {

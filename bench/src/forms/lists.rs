@@ -5,10 +5,11 @@
 //! row's and the state's bytes are put at their nets, the gates are settled in
 //! net order, and the verdict, the outputs and the clock go through the lists.
 
-use super::read::{kind, operand, operands};
+use super::read::{kind, operand};
 use super::settle::settle_nets;
 use crate::call::{Call, First};
-use crate::image::{Sizes, CONST, INPUT, MOST_NETS, NOT, OUT, REG};
+use tracker::kinds::{CONST, INPUT, NOT, OUT, REG};
+use tracker::{Sizes, MOST_NETS};
 
 /// The lists, as parts of one array.
 struct Lists<'a> {
@@ -68,9 +69,8 @@ unsafe fn list_nets(image: *const u8, wanted: u8, list: &mut [u16]) {
 
 /// Sets the constants, and all other nets to 0. The answer is the lowest gate.
 unsafe fn prepare(image: *const u8, n: usize, nets: &mut [u8]) -> usize {
-    let pins = operands(image, n);
     for (i, byte) in nets[..n].iter_mut().enumerate() {
-        *byte = u8::from(kind(image, i) == CONST) * operand(pins, i, 0) as u8;
+        *byte = u8::from(kind(image, i) == CONST) * operand(image, n, i, 0) as u8;
     }
     (0..n).find(|i| kind(image, *i) >= NOT).unwrap_or(n)
 }
@@ -91,15 +91,13 @@ unsafe fn take_bytes(list: &[u16], nets: &[u8], bytes: &mut [u8]) {
 
 /// Every listed register takes the byte of its net.
 unsafe fn clock(image: *const u8, n: usize, list: &[u16], nets: &[u8], state: &mut [u8]) {
-    let pins = operands(image, n);
     for (net, byte) in list.iter().zip(state) {
-        *byte = *nets.get_unchecked(operand(pins, usize::from(*net), 0));
+        *byte = *nets.get_unchecked(operand(image, n, usize::from(*net), 0));
     }
 }
 
 /// The first of the listed OUTs that is protected and has mark 1.
 unsafe fn verdict(image: *const u8, n: usize, list: &[u16], nets: &[u8]) -> Option<usize> {
-    let pins = operands(image, n);
     let mut nets_listed = list.iter().map(|net| usize::from(*net));
-    nets_listed.find(|i| operand(pins, *i, 1) == 1 && *nets.get_unchecked(*i) >= 2)
+    nets_listed.find(|i| operand(image, n, *i, 1) == 1 && *nets.get_unchecked(*i) >= 2)
 }

@@ -1,10 +1,11 @@
 //! Form "match": unchecked reads, a match on the kind, formulas on bits.
 
 use super::passes::{clock, lowest, verdict, write_outputs};
-use super::read::{kind, operand, operands};
+use super::read::{kind, operand};
 use super::table::code;
 use crate::call::{Call, First};
-use crate::image::{Sizes, CONST, INPUT, MOST_NETS, OUT, REG};
+use tracker::kinds::{CONST, INPUT, OUT, REG};
+use tracker::{Sizes, MOST_NETS};
 
 /// The k cycles of an accepted run.
 pub fn cycles(mut call: Call, z: Sizes) -> First {
@@ -29,12 +30,11 @@ pub fn cycles(mut call: Call, z: Sizes) -> First {
 
 /// The bytes of all nets.
 unsafe fn work_out(image: *const u8, n: usize, row: &[u8], state: &[u8], nets: &mut [u8]) {
-    let pins = operands(image, n);
     let (mut inputs, mut registers) = (row.as_ptr(), state.as_ptr());
     for i in 0..n {
-        let read = |k: usize| *nets.get_unchecked(operand(pins, i, k));
+        let read = |k: usize| *nets.get_unchecked(operand(image, n, i, k));
         let byte = match kind(image, i) {
-            CONST => operand(pins, i, 0) as u8,
+            CONST => operand(image, n, i, 0) as u8,
             INPUT => {
                 inputs = inputs.add(1);
                 *inputs.sub(1)

@@ -29,8 +29,8 @@ mod settle;
 pub mod table;
 mod walk;
 
-use crate::call::checked;
-use crate::peers::Peer;
+use crate::checked::checked;
+use crate::peer::Peer;
 
 pub const MATCH: Peer = Peer {
     name: "match",

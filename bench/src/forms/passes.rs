@@ -1,8 +1,8 @@
 //! Unchecked passes over the nets of one kind, for the forms that need them. Each
 //! starts at a net below which there is none of the kind.
 
-use super::read::{kind, operand, operands};
-use crate::image::{OUT, REG};
+use super::read::{kind, operand};
+use tracker::kinds::{OUT, REG};
 
 /// The lowest net of a kind, or n where there is none.
 pub unsafe fn lowest(image: *const u8, n: usize, wanted: u8) -> usize {
@@ -11,8 +11,8 @@ pub unsafe fn lowest(image: *const u8, n: usize, wanted: u8) -> usize {
 
 /// The lowest protected OUT with mark 1.
 pub unsafe fn verdict(image: *const u8, n: usize, from: usize, nets: *const u8) -> Option<usize> {
-    let o = operands(image, n);
-    (from..n).find(|i| kind(image, *i) == OUT && operand(o, *i, 1) == 1 && *nets.add(*i) >= 2)
+    (from..n)
+        .find(|i| kind(image, *i) == OUT && operand(image, n, *i, 1) == 1 && *nets.add(*i) >= 2)
 }
 
 /// The bytes of the OUTs, in net order.
@@ -34,11 +34,10 @@ pub unsafe fn write_outputs(
 
 /// Every register takes the byte of its net.
 pub unsafe fn clock(image: *const u8, n: usize, from: usize, nets: *const u8, state: *mut u8) {
-    let pins = operands(image, n);
     let mut j = 0;
     for i in from..n {
         if kind(image, i) == REG {
-            *state.add(j) = *nets.add(operand(pins, i, 0));
+            *state.add(j) = *nets.add(operand(image, n, i, 0));
             j += 1;
         }
     }

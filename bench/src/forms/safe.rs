@@ -7,9 +7,11 @@
 //! used of them, so that the compiler sees that no index can reach their end.
 
 use super::table::WIDE;
+use crate::accepted::accepted;
 use crate::call::{Call, First};
-use crate::image::{Sizes, HEAD, MOST_NETS, OUT};
 use crate::plain;
+use tracker::kinds::OUT;
+use tracker::{Image, Sizes, MOST_NETS};
 
 /// The places of the buffer's parts. The nets of even cycles stand at 0.
 const ODD: usize = MOST_NETS;
@@ -22,7 +24,7 @@ type Outputs = [u8; 65536];
 
 /// The k cycles of an accepted run.
 pub fn cycles(mut call: Call, z: Sizes) -> First {
-    let (image, n) = (call.image, z.nets);
+    let (image, n) = (accepted(call.image), z.nets);
     let mut bytes: Buffer = [0; LENGTH];
     let mut out: Outputs = [0; 65536];
     let mut first = None;
@@ -32,8 +34,8 @@ pub fn cycles(mut call: Call, z: Sizes) -> First {
         let now = cycle % 2 * ODD;
         match cycle {
             0 => start(&call, z, &mut bytes, &mut out),
-            _ if now == 0 => work_out::<0, ODD>(image, n, &mut bytes, &mut out),
-            _ => work_out::<ODD, 0>(image, n, &mut bytes, &mut out),
+            _ if now == 0 => work_out::<0, ODD>(image, &mut bytes, &mut out),
+            _ => work_out::<ODD, 0>(image, &mut bytes, &mut out),
         }
         call.slot(z, cycle).copy_from_slice(&out[..z.outputs]);
         let nets = &bytes[now..now + n];
@@ -50,8 +52,9 @@ pub fn cycles(mut call: Call, z: Sizes) -> First {
 /// Cycle 0, in which the REGs show the state.
 fn start(call: &Call, z: Sizes, bytes: &mut Buffer, out: &mut Outputs) {
     let nets = &mut bytes[..z.nets];
-    plain::work_out(call.image, call.row(z, 0), call.state, nets);
-    plain::write_outputs(call.image, nets, &mut out[..z.outputs]);
+    let image = accepted(call.image);
+    plain::work_out(image, call.row(z, 0), call.state, nets);
+    plain::write_outputs(image, nets, &mut out[..z.outputs]);
 }
 
 /// Where pin a of a kind is looked for. `counted` is all ones for an INPUT, whose
@@ -77,27 +80,25 @@ fn entries(now: usize, before: usize) -> [Entry; 256] {
 
 /// The bytes of all nets, and the outputs.
 fn work_out<const NOW: usize, const BEFORE: usize>(
-    image: &[u8],
-    n: usize,
+    image: Image,
     bytes: &mut Buffer,
     out: &mut Outputs,
 ) {
     let entries = entries(NOW, BEFORE);
-    let (kinds, operands) = image[HEAD..].split_at(n);
-    let nets = operands.as_chunks::<2>().0.as_chunks::<3>().0;
     let (mut i, mut inputs, mut outputs) = (0u16, 0u16, 0u16);
-    for (kind, pins) in kinds.iter().zip(nets) {
-        let [a, b, c] = pins.map(|pin| usize::from(u16::from_le_bytes(pin)));
-        let entry = entries[usize::from(*kind)];
+    for net in image.nets() {
+        let [a, b, c] = net.operands.map(usize::from);
+        let kind = usize::from(net.kind);
+        let entry = entries[kind];
         let taken = usize::from(inputs & entry.counted);
         let pin_a = usize::from(bytes[usize::from(entry.base) + a + taken]);
         let pin_b = usize::from(bytes[NOW + b]);
         let pin_c = usize::from(bytes[NOW + c]);
-        let byte = WIDE[((usize::from(*kind) * 4 + pin_a) * 4 + pin_b) * 4 + pin_c];
+        let byte = WIDE[((kind * 4 + pin_a) * 4 + pin_b) * 4 + pin_c];
         bytes[NOW + usize::from(i)] = byte;
         out[usize::from(outputs)] = byte;
         i = i.wrapping_add(1);
         inputs = inputs.wrapping_sub(entry.counted);
-        outputs = outputs.wrapping_add(u16::from(*kind >= OUT));
+        outputs = outputs.wrapping_add(u16::from(net.kind >= OUT));
     }
 }

@@ -1,8 +1,8 @@
 //! The gates of the form "lists", in net order.
 
-use super::read::{kind, operand, operands};
+use super::read::{kind, operand};
 use super::table::TABLE;
-use crate::image::NOT;
+use tracker::kinds::NOT;
 
 /// All nets from `from` on, four to a turn. There is no gate and no OUT below it.
 #[inline]
@@ -26,8 +26,7 @@ pub unsafe fn settle_nets(image: *const u8, n: usize, from: usize, nets: &mut [u
 unsafe fn settle(image: *const u8, n: usize, i: usize, nets: &mut [u8]) {
     let kind = kind(image, i);
     if kind >= NOT {
-        let pins = operands(image, n);
-        let read = |k: usize| usize::from(*nets.get_unchecked(operand(pins, i, k)));
+        let read = |k: usize| usize::from(*nets.get_unchecked(operand(image, n, i, k)));
         let index = ((usize::from(kind) * 4 + read(0)) * 4 + read(1)) * 4 + read(2);
         *nets.get_unchecked_mut(i) = *TABLE.get_unchecked(index);
     }

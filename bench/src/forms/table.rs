@@ -19,19 +19,24 @@ const fn filled<const LENGTH: usize>() -> [u8; LENGTH] {
     table
 }
 
+/// The byte of a value and a mark, each in the lowest bit.
+const fn byte(value: u8, mark: u8) -> u8 {
+    (value & 1) | ((mark & 1) << 1)
+}
+
 /// The byte of a gate by its pins' bytes.
 pub const fn code(kind: usize, a: u8, b: u8, c: u8) -> u8 {
     let (ta, tb) = (a >> 1, b >> 1);
     match kind {
         3 => a ^ 1,
-        4 => ((a & b) & 1) | (((ta & b) | (tb & a) | (ta & tb)) & 1) << 1,
-        5 => ((a | b) & 1) | (((ta & !b) | (tb & !a) | (ta & tb)) & 1) << 1,
-        6 => ((a ^ b) & 1) | ((ta | tb) & 1) << 1,
+        4 => byte(a & b, (ta & b) | (tb & a) | (ta & tb)),
+        5 => byte(a | b, (ta & !b) | (tb & !a) | (ta & tb)),
+        6 => byte(a ^ b, ta | tb),
         7 => {
             let chosen = if c & 1 == 0 { a } else { b };
             let any = ((a | b) != 0) as u8;
             if c >= 2 {
-                (chosen & 1) | any << 1
+                byte(chosen, any)
             } else {
                 chosen
             }

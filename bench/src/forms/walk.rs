@@ -6,7 +6,7 @@
 //! instructions, whatever its kind, and there is no branch to mispredict.
 
 use super::table::TABLE;
-use crate::image::{HEAD, MOST_NETS};
+use tracker::{kind_place, operand_place, MOST_NETS};
 
 static CONSTANTS: [u8; 2] = [0, 1];
 
@@ -33,7 +33,7 @@ impl Buffers {
     fn flows(&self, count: usize) -> bool {
         let bytes = self.outputs[..count].iter();
         let pairs = bytes.zip(&self.policies[..count]);
-        pairs.fold(0, |any, (byte, policy)| any | (byte >> 1 & policy)) != 0
+        pairs.fold(0, |any, (byte, policy)| any | ((byte >> 1) & policy)) != 0
     }
 }
 
@@ -73,8 +73,8 @@ pub unsafe fn walk<const POLICIES: bool>(
     now: usize,
     buffers: &mut Buffers,
 ) -> bool {
-    let kinds = image.add(HEAD);
-    let mut pins = kinds.add(n).cast::<u16>();
+    let kinds = image.add(kind_place(0));
+    let mut pins = image.add(operand_place(n, 0, 0)).cast::<u16>();
     let places = Places::new(kinds, now, buffers);
     let mut counts = Counts {
         inputs: 0,

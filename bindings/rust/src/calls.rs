@@ -2,9 +2,6 @@
 
 use crate::{answers, ffi, FirstFlow, Refusal, Verdict};
 
-/// The most cycles that a run may take.
-pub const MOST_CYCLES: usize = 4_096;
-
 /// Checks whether an image is a netlist.
 ///
 /// # Errors
@@ -14,10 +11,10 @@ pub const MOST_CYCLES: usize = 4_096;
 /// # Example
 ///
 /// ```
-/// use tracker::{check, Reason, Refusal};
+/// use tracker::{check, encode, kinds, Net, Reason, Refusal};
 ///
 /// // One net, a CONST 1.
-/// let image = [1, 0, 0, 0, 0, 0, 0, 0, 0, 1, 0, 0, 0, 0, 0];
+/// let image = encode(&[Net::new(kinds::CONST, 1, 0, 0)]);
 /// assert_eq!(check(&image), Ok(()));
 ///
 /// let refusal = Refusal { reason: Reason::ImageLength, place: 0 };
@@ -39,10 +36,12 @@ pub fn check(image: &[u8]) -> Result<(), Refusal> {
 /// # Example
 ///
 /// ```
+/// use tracker::{encode, kinds, power_up, Net};
+///
 /// // One net, a REG that takes its own byte, with start 1.
-/// let image = [1, 0, 0, 0, 1, 0, 0, 0, 2, 0, 0, 1, 0, 0, 0];
+/// let image = encode(&[Net::new(kinds::REG, 0, 1, 0)]);
 /// let mut state = [255];
-/// tracker::power_up(&image, &mut state)?;
+/// power_up(&image, &mut state)?;
 /// assert_eq!(state, [1]);
 /// # Ok::<(), tracker::Refusal>(())
 /// ```
@@ -63,10 +62,10 @@ pub fn power_up(image: &[u8], state: &mut [u8]) -> Result<(), Refusal> {
 /// # Example
 ///
 /// ```
-/// use tracker::{step, Verdict};
+/// use tracker::{encode, kinds, step, Net, Verdict};
 ///
 /// // An INPUT, and a protected OUT on it.
-/// let image = [2, 0, 1, 0, 0, 0, 1, 0, 1, 8, 0, 0, 0, 0, 0, 0, 0, 0, 1, 0, 0, 0];
+/// let image = encode(&[Net::new(kinds::INPUT, 0, 0, 0), Net::new(kinds::OUT, 0, 1, 0)]);
 /// let mut nets = [0; 2];
 /// let verdict = step(&image, &mut [], &[3], &mut nets)?;
 /// assert_eq!(verdict, Verdict::Flow { net: 1 });
@@ -85,7 +84,7 @@ pub fn step(
     answers::step(ffi::step(image, state, row, nets))
 }
 
-/// Takes K cycles, at most [`MOST_CYCLES`], and answers with the first flow. It
+/// Takes K cycles, at most [`MOST_CYCLES`](crate::MOST_CYCLES), and answers with the first flow. It
 /// goes on to the end after a flow.
 ///
 /// The state has R bytes and is left as after the last cycle. `rows` has K × I
@@ -99,10 +98,10 @@ pub fn step(
 /// # Example
 ///
 /// ```
-/// use tracker::{run, FirstFlow, Verdict};
+/// use tracker::{encode, kinds, run, FirstFlow, Net, Verdict};
 ///
 /// // An INPUT, and a protected OUT on it.
-/// let image = [2, 0, 1, 0, 0, 0, 1, 0, 1, 8, 0, 0, 0, 0, 0, 0, 0, 0, 1, 0, 0, 0];
+/// let image = encode(&[Net::new(kinds::INPUT, 0, 0, 0), Net::new(kinds::OUT, 0, 1, 0)]);
 /// let mut outputs = [0; 3];
 /// let answer = run(&image, 3, &mut [], &[0, 3, 1], &mut outputs)?;
 /// let verdict = Verdict::Flow { net: 1 };
@@ -133,14 +132,15 @@ pub fn run(
 /// # Example
 ///
 /// ```
-/// use tracker::{double, image_length, sizes};
+/// use tracker::{double, encode, image_length, kinds, Image, Net};
 ///
 /// // An INPUT, and a protected OUT on it, become four nets.
-/// let image = [2, 0, 1, 0, 0, 0, 1, 0, 1, 8, 0, 0, 0, 0, 0, 0, 0, 0, 1, 0, 0, 0];
+/// let image = encode(&[Net::new(kinds::INPUT, 0, 0, 0), Net::new(kinds::OUT, 0, 1, 0)]);
 /// let mut doubled = [0; image_length(4)];
 /// double(&image, &mut doubled)?;
-/// assert_eq!(sizes(&doubled).map(|sizes| sizes.outputs), Some(2));
-/// assert_eq!(doubled[8..12], [1, 1, 8, 8]);
+/// let doubled = Image::of(&doubled).unwrap();
+/// assert_eq!(doubled.sizes().outputs, 2);
+/// assert_eq!(doubled.kinds(), [kinds::INPUT, kinds::INPUT, kinds::OUT, kinds::OUT]);
 /// # Ok::<(), tracker::Refusal>(())
 /// ```
 pub fn double(image: &[u8], buffer: &mut [u8]) -> Result<(), Refusal> {

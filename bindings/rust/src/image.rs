@@ -1,70 +1,113 @@
-//! What a caller needs of an image to make buffers of the right lengths.
+//! Images read back.
 
-/// The most nets that an image may have.
-pub const MOST_NETS: usize = 8_192;
+use crate::layout::{HEAD, OPERANDS};
+use crate::{image_length, sizes, Net, Sizes};
 
-/// How many nets of the doubled netlist a net becomes, by its kind: CONST,
-/// INPUT, REG, NOT, AND, OR, XOR, MUX, OUT.
+/// The bytes of an image, to be read: its sizes, its kinds and its operands.
 ///
-/// The kinds of an image's N nets are its bytes 8 to 8 + N − 1, so their group
-/// lengths add up to the number of nets of the doubled netlist. The kinds of an
-/// image that [`check`](crate::check) accepts are 0 to 8.
-///
-/// ```
-/// use tracker::GROUP_LENGTHS;
-///
-/// // The kinds of the counter: INPUT, REG, NOT, NOT, AND, OUT.
-/// let kinds = [1_u8, 2, 3, 3, 4, 8];
-/// let nets: usize = kinds.iter().map(|&kind| GROUP_LENGTHS[usize::from(kind)]).sum();
-/// assert_eq!(nets, 16);
-/// ```
-pub const GROUP_LENGTHS: [usize; 9] = [2, 2, 2, 2, 6, 8, 2, 7, 2];
-
-/// The length in bytes of an image of so many nets: 8 + 7 × N.
+/// They are read as they stand, and nothing but their number is checked. So an
+/// image that [`check`](crate::check) refuses can be read too, unless it is
+/// refused for its length.
 ///
 /// ```
-/// assert_eq!(tracker::image_length(16), 120);
+/// use tracker::{encode, kinds, Image, Net};
+///
+/// let nets = [Net::new(kinds::INPUT, 0, 0, 0), Net::new(kinds::OUT, 0, 1, 0)];
+/// let bytes = encode(&nets);
+/// let image = Image::of(&bytes).unwrap();
+/// assert_eq!(image.sizes().outputs, 1);
+/// assert_eq!(image.kinds(), [kinds::INPUT, kinds::OUT]);
+/// assert_eq!(image.operand(1, 1), 1);
+/// assert_eq!(image.net(1), nets[1]);
+/// assert!(image.nets().eq(nets));
 /// ```
-#[must_use]
-pub const fn image_length(nets: usize) -> usize {
-    8 + 7 * nets
+#[derive(Debug, Clone, Copy, PartialEq, Eq)]
+pub struct Image<'a> {
+    sizes: Sizes,
+    kinds: &'a [u8],
+    operands: &'a [u8],
 }
 
-/// The four sizes at the head of an image.
-#[derive(Debug, Clone, Copy, PartialEq, Eq, Hash)]
-pub struct Sizes {
-    /// N, the number of nets: the length of a step's net buffer.
-    pub nets: usize,
-    /// I, the number of inputs: the length of a row.
-    pub inputs: usize,
-    /// R, the number of registers: the length of the state.
-    pub registers: usize,
-    /// O, the number of outputs: a run fills K × O output bytes.
-    pub outputs: usize,
+impl<'a> Image<'a> {
+    /// The image in these bytes, or none where there are not 8 + 7 × N of them.
+    #[inline]
+    #[must_use]
+    pub fn of(bytes: &'a [u8]) -> Option<Image<'a>> {
+        let sizes = sizes(bytes)?;
+        if bytes.len() != image_length(sizes.nets) {
+            return None;
+        }
+        let (kinds, operands) = bytes[HEAD..].split_at(sizes.nets);
+        Some(Image {
+            sizes,
+            kinds,
+            operands,
+        })
+    }
+
+    /// The sizes N, I, R and O.
+    #[inline]
+    #[must_use]
+    pub fn sizes(&self) -> Sizes {
+        self.sizes
+    }
+
+    /// The kinds of all nets.
+    #[inline]
+    #[must_use]
+    pub fn kinds(&self) -> &'a [u8] {
+        self.kinds
+    }
+
+    /// An operand of a net: 0 for a, 1 for b and 2 for c.
+    ///
+    /// # Panics
+    ///
+    /// There is no such net or no such operand.
+    #[inline]
+    #[must_use]
+    pub fn operand(&self, net: usize, operand: usize) -> u16 {
+        self.operands(net)[operand]
+    }
+
+    /// A net.
+    ///
+    /// # Panics
+    ///
+    /// There is no such net.
+    #[inline]
+    #[must_use]
+    pub fn net(&self, number: usize) -> Net {
+        Net {
+            kind: self.kinds[number],
+            operands: self.operands(number),
+        }
+    }
+
+    /// All nets, in order.
+    #[inline]
+    pub fn nets(&self) -> impl DoubleEndedIterator<Item = Net> + ExactSizeIterator + 'a {
+        let entries = self.operands.chunks_exact(OPERANDS);
+        self.kinds.iter().zip(entries).map(|(&kind, entry)| Net {
+            kind,
+            operands: decoded(entry),
+        })
+    }
+
+    /// The operands of a net.
+    #[inline]
+    fn operands(&self, net: usize) -> [u16; 3] {
+        decoded(&self.operands[OPERANDS * net..][..OPERANDS])
+    }
 }
 
-/// Reads the sizes N, I, R and O in the first 8 bytes of an image, or none
-/// where it has fewer.
-///
-/// It does not check the image: the sizes are what these bytes say, also where
-/// [`check`](crate::check) refuses the image. Each is at most 65,535.
-///
-/// ```
-/// use tracker::{sizes, Sizes};
-///
-/// let head = [6, 0, 1, 0, 2, 0, 0, 1];
-/// let expected = Sizes { nets: 6, inputs: 1, registers: 2, outputs: 256 };
-/// assert_eq!(sizes(&head), Some(expected));
-/// assert_eq!(sizes(&head[..7]), None);
-/// ```
-#[must_use]
-pub fn sizes(image: &[u8]) -> Option<Sizes> {
-    let head = image.get(..8)?;
-    let size = |at: usize| usize::from(u16::from_le_bytes([head[at], head[at + 1]]));
-    Some(Sizes {
-        nets: size(0),
-        inputs: size(2),
-        registers: size(4),
-        outputs: size(6),
-    })
+/// The operands in the bytes of one net.
+#[inline]
+fn decoded(bytes: &[u8]) -> [u16; 3] {
+    let operand = |low: u8, high: u8| u16::from_le_bytes([low, high]);
+    [
+        operand(bytes[0], bytes[1]),
+        operand(bytes[2], bytes[3]),
+        operand(bytes[4], bytes[5]),
+    ]
 }

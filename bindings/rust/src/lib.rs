@@ -31,6 +31,14 @@
 //! byte, except at [`Reason::DoubledRefused`]. Each buffer must have its exact
 //! length, for which [`sizes`] and [`image_length`] help.
 //!
+//! # Images
+//!
+//! [`encode`] makes the image of a list of [`Net`]s, with the kinds of
+//! [`kinds`], and [`Image`] reads sizes, kinds and operands back.
+//! [`encode_with`] takes any sizes, and [`kind_place`] and [`operand_place`] say
+//! where a byte stands, for images that are to be refused. None of these checks
+//! a netlist.
+//!
 //! # Panics
 //!
 //! The wrapper and the static library are of one release. An answer that the
@@ -42,17 +50,30 @@
 
 mod answers;
 mod calls;
+mod encoding;
 #[allow(unsafe_code)]
 pub mod ffi;
+mod groups;
 mod image;
+pub mod kinds;
+mod layout;
+mod limits;
+mod net;
 mod reason;
 mod refusal;
+mod sizes;
 mod verdict;
 
-pub use calls::{check, double, power_up, run, step, MOST_CYCLES};
-pub use image::{image_length, sizes, Sizes, GROUP_LENGTHS, MOST_NETS};
+pub use calls::{check, double, power_up, run, step};
+pub use encoding::{encode, encode_with};
+pub use groups::GROUP_LENGTHS;
+pub use image::Image;
+pub use layout::{image_length, kind_place, operand_place};
+pub use limits::{MOST_CYCLES, MOST_NETS};
+pub use net::Net;
 pub use reason::Reason;
 pub use refusal::Refusal;
+pub use sizes::{sizes, Sizes};
 pub use verdict::{FirstFlow, Verdict};
 
 /// The README, whose example is compiled and run as a test.

@@ -1,16 +1,11 @@
 //! The lengths that the crate gives, held against the static library.
 
-use tracker::{double, image_length, sizes, GROUP_LENGTHS};
+use tracker::kinds::CONST;
+use tracker::{double, encode, image_length, sizes, Net, GROUP_LENGTHS};
 
 /// A CONST 0, and a net of the kind whose operands are all 0.
-fn two_nets(kind: u8) -> [u8; image_length(2)] {
-    let mut image = [0; image_length(2)];
-    image[0] = 2;
-    image[2] = u8::from(kind == 1);
-    image[4] = u8::from(kind == 2);
-    image[6] = u8::from(kind == 8);
-    image[9] = kind;
-    image
+fn two_nets(kind: u8) -> Vec<u8> {
+    encode(&[CONST, kind].map(|kind| Net::new(kind, 0, 0, 0)))
 }
 
 // Doubling accepts the exact length alone, and a CONST becomes two nets.

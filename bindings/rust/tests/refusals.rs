@@ -1,26 +1,14 @@
 //! The small examples of the specification's table of refusals, each by a call
 //! of the static library. No refused call changes a lent byte.
 
-use tracker::{check, double, image_length, power_up, run, step, Reason, Refusal};
+use tracker::{check, double, encode, encode_with, image_length, kinds, power_up, run, step};
+use tracker::{Net, Reason, Refusal, Sizes};
 
-/// A net's kind and its operands a, b and c.
-type Net = (u8, [u16; 3]);
-
-const CONST: Net = (0, [0, 0, 0]);
-const INPUT: Net = (1, [0, 0, 0]);
-const REG: Net = (2, [0, 0, 0]);
-const AND: Net = (4, [0, 0, 0]);
-const OR: Net = (5, [0, 0, 0]);
-
-/// An image with the sizes I, R and O as given.
-fn image(sizes: [u16; 3], nets: &[Net]) -> Vec<u8> {
-    let mut bytes = (nets.len() as u16).to_le_bytes().to_vec();
-    bytes.extend(sizes.iter().flat_map(|size| size.to_le_bytes()));
-    bytes.extend(nets.iter().map(|net| net.0));
-    let operands = nets.iter().flat_map(|net| net.1);
-    bytes.extend(operands.flat_map(|operand| operand.to_le_bytes()));
-    bytes
-}
+const CONST: Net = Net::new(kinds::CONST, 0, 0, 0);
+const INPUT: Net = Net::new(kinds::INPUT, 0, 0, 0);
+const REG: Net = Net::new(kinds::REG, 0, 0, 0);
+const AND: Net = Net::new(kinds::AND, 0, 0, 0);
+const OR: Net = Net::new(kinds::OR, 0, 0, 0);
 
 fn refused<T>(reason: Reason, place: usize) -> Result<T, Refusal> {
     Err(Refusal { reason, place })
@@ -34,7 +22,7 @@ fn lengths_of_the_image() {
     // 8,193 is 32 × 256 + 1.
     let head = [1, 32, 0, 0, 0, 0, 0, 0];
     assert_eq!(check(&head), refused(Reason::NetsOutOfRange, 0));
-    let mut long = image([0, 0, 0], &[CONST]);
+    let mut long = encode(&[CONST]);
     long.push(0);
     assert_eq!(long.len(), 16);
     assert_eq!(check(&long), refused(Reason::ImageLength, 0));
@@ -42,20 +30,22 @@ fn lengths_of_the_image() {
 
 #[test]
 fn nets_of_the_image() {
-    let bad = |net| check(&image([0, 0, 0], &[CONST, net]));
-    assert_eq!(bad((9, [0, 0, 0])), refused(Reason::Kind, 1));
-    assert_eq!(bad((3, [1, 0, 0])), refused(Reason::Pin, 1));
-    assert_eq!(bad((2, [0, 3, 0])), refused(Reason::Value, 1));
-    assert_eq!(bad((1, [1, 0, 0])), refused(Reason::UnlistedOperand, 1));
-    assert_eq!(
-        check(&image([1, 0, 0], &[CONST])),
-        refused(Reason::Counts, 0)
-    );
+    let bad = |kind, a, b| {
+        let nets = [CONST, Net::new(kind, a, b, 0)];
+        check(&encode_with(Sizes::of(&[CONST, CONST]), &nets))
+    };
+    assert_eq!(bad(9, 0, 0), refused(Reason::Kind, 1));
+    assert_eq!(bad(kinds::NOT, 1, 0), refused(Reason::Pin, 1));
+    assert_eq!(bad(kinds::REG, 0, 3), refused(Reason::Value, 1));
+    assert_eq!(bad(kinds::INPUT, 1, 0), refused(Reason::UnlistedOperand, 1));
+    let sizes = Sizes::of(&[INPUT]);
+    let answer = check(&encode_with(sizes, &[CONST]));
+    assert_eq!(answer, refused(Reason::Counts, 0));
 }
 
 #[test]
 fn states() {
-    let register = image([0, 1, 0], &[REG]);
+    let register = encode(&[REG]);
     assert_eq!(
         power_up(&register, &mut []),
         refused(Reason::StateLength, 0)
@@ -73,7 +63,7 @@ fn states() {
 
 #[test]
 fn rows_and_buffers_of_a_step() {
-    let inputs = image([2, 0, 0], &[INPUT, INPUT]);
+    let inputs = encode(&[INPUT, INPUT]);
     let mut nets = [7; 2];
     let answer = step(&inputs, &mut [], &[0], &mut nets);
     assert_eq!(answer, refused(Reason::RowLength, 0));
@@ -89,7 +79,7 @@ fn rows_and_buffers_of_a_step() {
 
 #[test]
 fn cycles_rows_and_buffers_of_a_run() {
-    let register = image([0, 1, 0], &[REG]);
+    let register = encode(&[REG]);
     let mut state = [2];
     for k in [4_097, usize::MAX] {
         let answer = run(&register, k, &mut state, &[], &mut []);
@@ -102,7 +92,7 @@ fn cycles_rows_and_buffers_of_a_run() {
     assert_eq!(answer, refused(Reason::BufferLength, 0));
     assert_eq!((state, outputs), ([2], [7]));
 
-    let inputs = image([2, 0, 0], &[INPUT, INPUT]);
+    let inputs = encode(&[INPUT, INPUT]);
     let answer = run(&inputs, 2, &mut [], &[0, 1, 2, 4], &mut []);
     assert_eq!(answer, refused(Reason::RowByte, 3));
 }
@@ -113,11 +103,11 @@ fn cycles_rows_and_buffers_of_a_run() {
 fn sizes_of_the_doubled() {
     let mut nets = vec![OR; 1_025];
     nets[0] = CONST;
-    let answer = double(&image([0, 0, 0], &nets), &mut [7]);
+    let answer = double(&encode(&nets), &mut [7]);
     assert_eq!(answer, refused(Reason::DoubledTooLarge, 0));
 
     nets[1_024] = AND;
-    let source = image([0, 0, 0], &nets);
+    let source = encode(&nets);
     let mut buffer = vec![7; image_length(8_192) - 1];
     assert_eq!(
         double(&source, &mut buffer),

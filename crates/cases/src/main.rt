@@ -1,40 +1,17 @@
-// Document 01's examples, executed: a line has an example and what the library answers, and the file stdout has what the document says.
-mod checking;
-mod doubled;
-mod gate_bytes;
-mod images;
-mod print;
-mod running;
-mod starting;
-mod stepping;
+// Document 01's examples, executed. Standard input has the cases, in a language that its head explains; a line of output has the name of a case and what
+// the library answers to it, and the file stdout has what the document says.
+mod answers;
+mod calls;
+mod lines;
+
+use libc::STDIN_FILENO;
 
 fn main() {
-    gate_bytes::truth_tables();
-    gate_bytes::marked_and_or();
-    gate_bytes::marked_xor_mux();
-    checking::small_examples();
-    checking::lengths_and_counts();
-    checking::kinds_and_pins();
-    checking::high_bytes();
-    checking::values_and_unlisted();
-    checking::order();
-    checking::limits();
-    starting::power_ups();
-    stepping::four_rows();
-    stepping::verdicts();
-    stepping::net_bytes();
-    stepping::refused();
-    stepping::refused_elsewhere();
-    stepping::refused_in_order();
-    running::short_runs();
-    running::longest_run();
-    running::too_long_a_run();
-    running::refused();
-    running::refused_elsewhere();
-    running::refused_with_no_cycle();
-    running::refused_in_order();
-    doubled::written();
-    doubled::refused();
-    doubled::refused_in_order();
-    doubled::runs();
+    let mut text = io::large_buffer();
+    let n = io::read_full(STDIN_FILENO, &mut text);
+    if n == text.len() {
+        cases_text::say(b"the data file is too long\n");
+        return;
+    }
+    lines::execute(&text[..n]);
 }

@@ -8,13 +8,15 @@ use mathlib.Core.Option.{none}
 use mathlib.Core.Bool.{Bool, true, false, _&&_, _||_, not}
 use lib.Dec.{eqb, leb, lit≤}
 use borrow.Author.Tests.{leb-true, eqb-true, not-true, not-false, le-leb, eq-eqb}
-use Rattle.netlist.specs.declared.image.Net.{Net}
-use Rattle.netlist.specs.Image.{sizesOf, netsOf}
-use Rattle.netlist.specs.Check.{badPin, badValue, badUnlisted, wrongCounts, netRefusal, netsRefusal, checkRefusal}
-use Rattle.netlist.proofs.Pairs.{pairs-getD}
-use Rattle.netlist.proofs.Refusals.{then-none, refuse-none, neither, not-above, not-from, not-other, not-same, accepted, Codes}
-use Rattle.netlist.proofs.Checked.{Checked, check-none, length-nets}
-use Rattle.tracker.proofs.Calls.{IsState, Ready, power-up-none, step-none, run-none}
+use Rattle.image.specs.declared.image.Net.{Net}
+use Rattle.image.specs.Image.{sizesOf, netsOf}
+use Rattle.image.proofs.Pairs.{pairs-getD}
+use Rattle.image.proofs.Nets.{length-nets}
+use Rattle.refusals.proofs.Refusals.{then-none, refuse-none, neither, not-above, not-from, not-other, not-same, accepted, Codes}
+use Rattle.net_checking.specs.NetCheck.{badPin, badValue, badUnlisted, netRefusal}
+use Rattle.checking.specs.Check.{wrongCounts, netsRefusal, checkRefusal}
+use Rattle.checking.proofs.Checked.{Checked, check-none}
+use Rattle.cycle.proofs.Calls.{IsState, Ready, power-up-none, step-none, run-none}
 use Rattle.doubling.proofs.Checks.{double-none}
 use Rattle.claims.specs.Accepted as claim
 use Rattle.claims.proofs.InTurn.{InTurn, none-drawn, none-given}
@@ -116,10 +118,10 @@ module _ (s : List ℕ) where
   checked = (λ c. check .0 (check-none s .1 c), λ a. check-none s .0 (check .1 a))
 
 -- THE LENT BYTES: no byte is above 3, index by index and one after the other
-pub each : {xs : List ℕ} → Codes xs → claim.Codes xs
+pub each : {xs : List ℕ} → Codes xs → claim.NoneAbove3 xs
 each h i l = pairs-getD i 0 (lit≤ tt) h
 
-pub together : (xs : List ℕ) → claim.Codes xs → Codes xs
+pub together : (xs : List ℕ) → claim.NoneAbove3 xs → Codes xs
 together [] h = Forall₂·nil
 together (x ∷ xs) h = Forall₂·cons (h 0 (omega arith)) (together xs (λ i l. h (suc i) (omega arith)))
 

@@ -12,23 +12,25 @@ use lib.Seq.{getD-append-add}
 use Rattle.gates.specs.Kinds.{OUT}
 use Rattle.gates.specs.Rules.{mark}
 use Rattle.gates.specs.Relations.{AgreeByte, same, low-high, high-low}
-use Rattle.netlist.specs.Image.{sizesOf, netsOf}
-use Rattle.netlist.proofs.Pairs.{pairs-getD}
-use Rattle.netlist.proofs.Checked.{check-none, length-nets}
-use Rattle.tracker.specs.Cycle.{Verdict, clear, cycleOf, cyclesOf, outputsOf, FirstFlow, firstFlow}
-use Rattle.tracker.specs.Calls.{done, asRun, powerUpOf, runOf}
-use Rattle.tracker.proofs.Calls.{Ready, run-none, run-accepted, first-ready, rest-ready}
+use Rattle.image.specs.Image.{sizesOf, netsOf}
+use Rattle.image.proofs.Pairs.{pairs-getD}
+use Rattle.image.proofs.Nets.{length-nets}
+use Rattle.checking.proofs.Checked.{check-none}
+use Rattle.cycle.specs.Cycle.{Verdict, clear, cycleOf, cyclesOf, outputsOf, FirstFlow, firstFlow}
+use Rattle.cycle.specs.Calls.{done, asRun, powerUpOf, runOf}
+use Rattle.cycle.proofs.Calls.{Ready, run-none, run-accepted, first-ready, rest-ready}
 use Rattle.claims.specs.NetBytes.{netOf, placeOf}
 use Rattle.claims.specs.Verdicts as judged
 use Rattle.claims.specs.Verdicts.{Judged, First}
-use Rattle.claims.specs.History.{run}
+use Rattle.claims.specs.History.{run, ran, callResult, Finished}
 use Rattle.claims.specs.TwoRun.{Matched}
-use Rattle.claims.specs.OneRun.{clearAfter, ClearStays}
+use Rattle.claims.specs.InBytes.{clearAfter, ClearStays}
 use Rattle.claims.proofs.NetBytes.{net-bytes}
 use Rattle.claims.proofs.Verdicts.{verdicts, first-flows}
 use Rattle.claims.proofs.TwoRun.{demand3}
 use Rattle.claims.proofs.TwoSteps.{marks-agree}
-use Rattle.claims.proofs.OneRun.{powered, run-taken, same-run}
+use Rattle.claims.proofs.OneRun.{powered, run-taken}
+use Rattle.claims.proofs.OneCall.{same-one}
 
 -- OUTPUTS that agree are equal where the first is unmarked
 unmarked-equal : {x y : ℕ} → AgreeByte x y → x / 2 % 2 ≡ 0 → x ≡ y
@@ -108,6 +110,7 @@ run-unmarked s st k rows outputs h c i m l out protected =
     (λ d q. each d (omega (arith, cycles-length s k rows st))) c m)
 
 pub clear-stays : ClearStays
+unfolding callResult
 clear-stays s a a′ k rows rows′ outputs outputs′ p p′ rs l h =
     let st = powerUpOf s a .state in
     let st′ = powerUpOf s a′ .state in
@@ -115,10 +118,12 @@ clear-stays s a a′ k rows rows′ outputs outputs′ p p′ rs l h =
     let r = run-none s st k rows outputs .0 (run-taken s st k rows outputs h) .0 in
     let matched = Forall₂·cons (Matched.runs {k = k} (marks-agree rows′ (r .codes) rs) l) Forall₂·nil in
     let two = demand3 s (check-none s .1 (c .0)) (run k rows outputs ∷ []) (run k rows′ outputs′ ∷ []) matched in
-    let t = same-run s st st′ k rows rows′ outputs outputs′ (two .from-power-up a a′ (c .1) (powered s a′ p′ .1)) h in
+    let ends : Finished (ran (runOf s st k rows outputs .answer)) = rw h Finished.a-run in
+    let t = same-one (two .from-power-up a a′ (c .1) (powered s a′ p′ .1)) ends in
+    let e = t .answer in
     record {
-      answer = t .0;
+      answer = cc;
       protected = λ d i m n out q.
           let u = run-unmarked s st k rows outputs h d i m n out q in
-          (u, unmarked-equal (pairs-getD (d * sizesOf s .outputs + placeOf OUT s i) 0 same (t .1)) u);
+          (u, unmarked-equal (pairs-getD (d * sizesOf s .outputs + placeOf OUT s i) 0 same (t .buffer)) u);
     }

@@ -2,9 +2,10 @@
 use native.Mathlib.Numerals.{add-one}
 use native.Mathlib.Omega.{arith}
 use lib.Dec.{lit<}
-use Rattle.netlist.specs.Image.{sizesOf, netsOf}
-use Rattle.netlist.proofs.Pairs.{pairs-getD}
-use Rattle.netlist.proofs.Checked.{check-none, length-nets}
+use Rattle.image.specs.Image.{sizesOf, netsOf}
+use Rattle.image.proofs.Pairs.{pairs-getD}
+use Rattle.image.proofs.Nets.{length-nets}
+use Rattle.checking.proofs.Checked.{check-none}
 use Rattle.doubling.specs.Doubled.{doubledImage}
 use Rattle.doubling.proofs.Positions.{value-end, value-next, group-length, group-net, value-register, mark-register, outs-free}
 use Rattle.doubling.proofs.Sums.{start-zero, mark-end}

@@ -5,21 +5,23 @@ use mathlib.Core.Path.{_≡_, refl, sym, ap, ap₂, _∙_}
 use mathlib.Core.List.{List, [], _∷_, _++_, map, map-append, append-nil, Forall₂, Forall₂·nil, Forall₂·cons}
 use mathlib.Core.Option.{none}
 use lib.ListN.{length, getD, List·getD-map}
-use Rattle.netlist.specs.Image.{sizesOf, netsOf}
-use Rattle.netlist.specs.declared.answer.Refusal.{Refusal}
-use Rattle.netlist.proofs.Checked.{check-none}
-use Rattle.tracker.specs.Cycle.{FirstFlow, outputsFrom}
-use Rattle.tracker.specs.Calls.{Answer, done, refused, Stepped, powerUpOf, runOf, runRefusal}
-use Rattle.tracker.proofs.Calls.{either-way, run-none}
-use Rattle.doubling.specs.Doubled.{doubleRefusal, doubleOf, split}
+use Rattle.image.specs.Image.{sizesOf, netsOf}
+use Rattle.refusals.specs.declared.answer.Refusal.{Refusal}
+use Rattle.checking.proofs.Checked.{check-none}
+use Rattle.cycle.specs.Cycle.{FirstFlow, outputsFrom}
+use Rattle.cycle.specs.Calls.{Answer, done, refused, Stepped, powerUpOf, runOf, runRefusal}
+use Rattle.cycle.proofs.Calls.{either-way, run-none}
+use Rattle.groups.specs.Groups.{split}
+use Rattle.doubling.specs.Doubled.{doubleRefusal, doubleOf}
 use Rattle.doubling.proofs.Checks.{doubled-sizes, double-none, double-refused, double-accepted}
+use Rattle.doubling.proofs.Simulation.{split-append}
 use Rattle.claims.specs.Steps.{stepsOf, outputsIn}
 use Rattle.claims.specs.History.{run, ran, CallAnswer, CallResult, refusalOf, accepted, Finished, AllFinished, Made, AllMade}
 use Rattle.claims.specs.Pairing.{Again, run-again, shown, Shows, Paired}
-use Rattle.claims.specs.OneRun.{fromPowerUp, ShowsInTwo, DoubledShows}
+use Rattle.claims.specs.InBytes.{fromPowerUp, ShowsInTwo, DoubledShows}
 use Rattle.claims.proofs.Unchanged.{not-some}
 use Rattle.claims.proofs.History.{accepted-none}
-use Rattle.claims.proofs.Splitting.{split-value, split-mark, split-append, in-two}
+use Rattle.claims.proofs.Splitting.{split-value, split-mark, in-two}
 use Rattle.claims.proofs.Pairing.{demand2}
 use Rattle.claims.proofs.OneRun.{powered, run-taken, run-ends, run-result}
 

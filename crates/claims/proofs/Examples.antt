@@ -1,11 +1,13 @@
 -- Document 01's examples C1 to C12, and a run of two rows, hold by computation.
 use mathlib.Core.Path.{refl}
 use Rattle.gates.specs.Rules.{value, mark, byte, andMark, orMark, xorMark, muxMark, notByte, andByte, orByte, xorByte, muxByte, gateByte}
-use Rattle.netlist.specs.Image.{sizesOf, netAt, netsFrom, netsOf, count}
-use Rattle.netlist.specs.Examples.{counter, crossed}
-use Rattle.netlist.specs.Check.{netRefusal, netsRefusal, checkRefusal, badByte, badLength}
-use Rattle.tracker.specs.Cycle.{pinByte, netByte, past, walk, bytesOf, verdictFrom, outputsFrom, registers, clocked, cycleOf, cyclesOf, outputsOf, stateAfter, firstOf, firstFlow}
-use Rattle.tracker.specs.Calls.{start, starts, powerUpRefusal, powerUpOf, asRun, runRefusal, runOf}
+use Rattle.image.specs.Image.{sizesOf, netAt, netsFrom, netsOf, count}
+use Rattle.image.specs.Examples.{counter, crossed}
+use Rattle.refusals.specs.Refusals.{badByte, badLength}
+use Rattle.net_checking.specs.NetCheck.{netRefusal}
+use Rattle.checking.specs.Check.{netsRefusal, checkRefusal}
+use Rattle.cycle.specs.Cycle.{pinByte, netByte, past, walk, bytesOf, verdictFrom, outputsFrom, registers, clocked, cycleOf, cyclesOf, outputsOf, stateAfter, firstOf, firstFlow}
+use Rattle.cycle.specs.Calls.{start, starts, powerUpRefusal, powerUpOf, asRun, runRefusal, runOf}
 use Rattle.claims.specs.Examples.{counted, twoRows, Examples}
 
 -- what is computed with

@@ -3,11 +3,11 @@ use Prim.Native.Nat.{ℕ}
 use mathlib.Core.Path.{_≡_, refl, sym, ap}
 use mathlib.Core.List.{List, [], _∷_, map}
 use mathlib.Core.Option.{none, some}
-use Rattle.netlist.specs.Image.{sizesOf, netsOf}
-use Rattle.netlist.specs.declared.answer.Refusal.{Refusal}
-use Rattle.tracker.specs.Cycle.{cycleOf, cyclesOf, outputsOf, stateAfter, firstFlow}
-use Rattle.tracker.specs.Calls.{done, refused, asStep, stepRefusal, asRun, runRefusal}
-use Rattle.tracker.proofs.Calls.{either-way, step-accepted, step-refused, run-accepted, run-refused}
+use Rattle.image.specs.Image.{sizesOf, netsOf}
+use Rattle.refusals.specs.declared.answer.Refusal.{Refusal}
+use Rattle.cycle.specs.Cycle.{cycleOf, cyclesOf, outputsOf, stateAfter, firstFlow}
+use Rattle.cycle.specs.Calls.{done, refused, asStep, stepRefusal, asRun, runRefusal}
+use Rattle.cycle.proofs.Calls.{either-way, step-accepted, step-refused, run-accepted, run-refused}
 use Rattle.claims.specs.History.{Call, step, run, lent, refusalOf, CallAnswer, stepped, ran, callResult, history, accepted, cyclesIn, TurnedBack, Made, AllMade, Histories}
 use Rattle.claims.proofs.Steps.{run-is-steps}
 

@@ -5,10 +5,10 @@ use mathlib.Core.Path.{_≡_, _∙_}
 use mathlib.Core.List.{List, [], _∷_}
 use mathlib.Core.Option.{Option, none, some}
 use lib.ListN.{length, getD}
-use Rattle.netlist.specs.declared.answer.Refusal.{Refusal}
-use Rattle.netlist.specs.Check.{_then_}
-use Rattle.netlist.proofs.Refusals.{then-none}
-use Rattle.tracker.proofs.Calls.{either-way}
+use Rattle.refusals.specs.declared.answer.Refusal.{Refusal}
+use Rattle.refusals.specs.Refusals.{_then_}
+use Rattle.refusals.proofs.Refusals.{then-none}
+use Rattle.cycle.proofs.Calls.{either-way}
 use Rattle.claims.proofs.Unchanged.{not-some}
 
 -- f i x is what element x draws at place i, and chain i xs what the elements xs draw, the first of which has place i

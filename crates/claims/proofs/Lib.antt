@@ -16,6 +16,7 @@ pub mod Groups
 pub mod Splitting
 pub mod Pairing
 pub mod TwoRun
+pub mod OneCall
 pub mod TwoSteps
 pub mod OneRun
 pub mod ClearRun

@@ -7,15 +7,17 @@ use mathlib.Core.List.{List}
 use lib.ListN.{length, getD, drop}
 use lib.Seq.{getD-drop}
 use Rattle.gates.specs.Rules.{gateByte}
-use Rattle.netlist.specs.declared.image.Net.{Net}
-use Rattle.netlist.specs.Image.{sizesOf, net, netsOf, count}
-use Rattle.netlist.proofs.Nets.{net-in}
-use Rattle.netlist.proofs.Checked.{Passes, is-const, is-input, is-reg, is-not, is-and, is-or, is-xor, is-mux, is-out, Checked, check-none, length-nets, net-passes}
-use Rattle.tracker.specs.Cycle.{pinByte, netByte, clocked, cycleOf}
-use Rattle.tracker.proofs.Selections.{Selection, outputs-selected, registers-selected, selection-length, place-below, selection-place}
-use Rattle.tracker.proofs.Walks.{WorkedOut, bytes-length, worked-out}
-use Rattle.tracker.proofs.Ruling as ruling
-use Rattle.tracker.proofs.Ruling.{sight, out-passes-on}
+use Rattle.image.specs.declared.image.Net.{Net}
+use Rattle.image.specs.Image.{sizesOf, net, netsOf, count}
+use Rattle.image.proofs.Nets.{net-in, length-nets}
+use Rattle.net_checking.proofs.Passes.{Passes, is-const, is-input, is-reg, is-not, is-and, is-or, is-xor, is-mux, is-out}
+use Rattle.checking.proofs.Checked.{Checked, check-none, net-passes}
+use Rattle.cycle.specs.Cycle.{pinByte, netByte, clocked, cycleOf}
+use Rattle.cycle.specs.Calls.{stateLength}
+use Rattle.cycle.proofs.Selections.{Selection, outputs-selected, registers-selected, selection-length, place-below, selection-place}
+use Rattle.cycle.proofs.Walks.{WorkedOut, bytes-length, worked-out}
+use Rattle.cycle.proofs.Ruling as ruling
+use Rattle.cycle.proofs.Ruling.{sight, out-passes-on}
 use Rattle.claims.specs.NetBytes.{netOf, placeOf, Counted, HasByte, const, input, reg, not, and, or, xor, mux, out, NetBytesAll, RuledBytesAll}
 
 -- the first of what is left of a list
@@ -31,7 +33,7 @@ module _ {s : List ℕ} (i : ℕ) (h : i < sizesOf s .nets) where
   selected z e = counted e (selection-length z 0 (netsOf s)) (selection-place z (netsOf s) i _ (omega (arith, length-nets s)) e)
 
   -- net i, by its kind
-  module _ (c : Checked s) {row st bs : List ℕ} (inputs : length row ≡ sizesOf s .inputs) (registers : length st ≡ sizesOf s .registers) where
+  module _ (c : Checked s) {row st bs : List ℕ} (inputs : length row ≡ sizesOf s .inputs) (registers : length st ≡ stateLength (sizesOf s)) where
     by-kind : {x : Net} → netOf s i .kind ≡ x .kind → Passes (sizesOf s .nets) i x → (w : WorkedOut gateByte (netsOf s) row st bs i x)
         → HasByte s row st bs i x (netByte gateByte x (w .before))
     unfolding netByte pinByte gateByte

@@ -5,14 +5,15 @@ use mathlib.Core.List.{List, [], _∷_, Forall₂, Forall₂·nil, Forall₂·co
 use mathlib.Core.Option.{Option, none, some}
 use native.Mathlib.Omega.{arith}
 use lib.ListN.{length}
-use Rattle.netlist.specs.Image.{sizesOf, netsOf}
-use Rattle.netlist.specs.declared.answer.Refusal.{Refusal}
-use Rattle.netlist.proofs.Pairs.{pairs-append, pairs-map}
-use Rattle.netlist.proofs.Checked.{Checked, check-none}
-use Rattle.tracker.specs.Cycle.{Cycle}
-use Rattle.tracker.specs.Calls.{starts, powerUpOf, asStep, stepRefusal, runRefusal}
-use Rattle.tracker.proofs.Calls.{IsState, step-none, run-none, starts-state, powered-up, cycle-state, run-state}
-use Rattle.doubling.specs.Doubled.{doubledSize, doubledImage, split}
+use Rattle.image.specs.Image.{sizesOf, netsOf}
+use Rattle.image.proofs.Pairs.{pairs-append, pairs-map}
+use Rattle.refusals.specs.declared.answer.Refusal.{Refusal}
+use Rattle.checking.proofs.Checked.{Checked, check-none}
+use Rattle.cycle.specs.Cycle.{Cycle}
+use Rattle.cycle.specs.Calls.{stateLength, starts, powerUpOf, asStep, stepRefusal, runRefusal}
+use Rattle.cycle.proofs.Calls.{IsState, step-none, run-none, starts-state, powered-up, cycle-state, run-state}
+use Rattle.groups.specs.Groups.{split}
+use Rattle.doubling.specs.Doubled.{doubledSize, doubledImage}
 use Rattle.doubling.proofs.Checks.{doubled-sizes, double-none, double-accepted}
 use Rattle.doubling.proofs.Runs.{Doubles, state-doubles, ready-again, cycle-doubles, cycles-double, power-up-again}
 use Rattle.claims.specs.History.{Call, refusalOf, callResult, history, accepted, cyclesIn, Finished, AllFinished}
@@ -101,7 +102,7 @@ module _ (s : List ℕ) (c : Checked s) (few : doubledSize (netsOf s) ≤ 8192) 
   calls-again (a ∷ cs) st cs′ t p = first-call st a cs cs′ (refusalOf s st a) refl t (calls-again cs) p
 
   -- each from its own power-up
-  pairs : (a b : List ℕ) → length a ≡ sizesOf s .registers → length b ≡ sizesOf d .registers
+  pairs : (a b : List ℕ) → length a ≡ stateLength (sizesOf s) → length b ≡ stateLength (sizesOf d)
       → (cs cs′ : List Call) → Forall₂ (Again d) (accepted s (powerUpOf s a .state) cs) cs′ → Paired s d a b cs cs′
   pairs a b la lb cs cs′ p =
       let e = powered-up s a c la in

@@ -4,16 +4,16 @@ use mathlib.Core.Path.{_≡_}
 use mathlib.Core.List.{List}
 use lib.ListN.{length}
 use Rattle.gates.specs.Kinds.{REG}
-use Rattle.netlist.specs.Image.{sizesOf}
-use Rattle.netlist.proofs.Checked.{Checked, check-none}
-use Rattle.tracker.specs.Calls.{start, starts, powerUpOf}
-use Rattle.tracker.proofs.Calls.{starts-state, powered-up}
-use Rattle.tracker.proofs.Selections.{registers-selected}
+use Rattle.image.specs.Image.{sizesOf}
+use Rattle.checking.proofs.Checked.{Checked, check-none}
+use Rattle.cycle.specs.Calls.{stateLength, start, starts, powerUpOf}
+use Rattle.cycle.proofs.Calls.{starts-state, powered-up}
+use Rattle.cycle.proofs.Selections.{registers-selected}
 use Rattle.claims.specs.NetBytes.{netOf, Counted}
 use Rattle.claims.specs.PowerUp.{PowerUpStarts}
 use Rattle.claims.proofs.NetBytes.{selected}
 
-register : {s : List ℕ} (st : List ℕ) → Checked s → length st ≡ sizesOf s .registers
+register : {s : List ℕ} (st : List ℕ) → Checked s → length st ≡ stateLength (sizesOf s)
     → (i : ℕ) → i < sizesOf s .nets → netOf s i .kind ≡ REG → Counted REG s i (powerUpOf s st .state) (start (netOf s i .b))
 unfolding starts
 register {s} st c l i h e = rw (powered-up s st c l) (selected i h (registers-selected (λ x. start (x .b))) e)

@@ -3,9 +3,8 @@ use Prim.Native.Nat.{ℕ, _+_, _*_, _<_}
 use native.Mathlib.Nat.{add-zero}
 use mathlib.Core.Path.{_≡_, refl}
 use mathlib.Core.List.{List}
-use Rattle.netlist.specs.Image.{sizesOf, netAt}
-use Rattle.netlist.proofs.Nets.{net-in}
-use Rattle.netlist.proofs.Checked.{length-nets}
+use Rattle.image.specs.Image.{sizesOf, netAt}
+use Rattle.image.proofs.Nets.{net-in, length-nets}
 use Rattle.claims.specs.Reading.{netOf, ImageRead}
 
 net-at : (s : List ℕ) (i : ℕ) → i < sizesOf s .nets → netOf s i ≡ netAt s (sizesOf s .nets) i

@@ -9,17 +9,19 @@ use mathlib.Core.Bool.{Bool, true, false, _||_, not}
 use lib.Dec.{eqb, ltb}
 use lib.ListN.{length, getD}
 use borrow.Author.Tests.{ltb-true, eqb-true, lt-ltb, le-ltb, eq-eqb, ne-eqb}
-use Rattle.netlist.specs.declared.image.Net.{Net}
-use Rattle.netlist.specs.Image.{sizesOf, net, netsOf}
-use Rattle.netlist.specs.declared.answer.Refusal.{Refusal}
-use Rattle.netlist.specs.Check.{refusal, refuse, _then_, badPin, badValue, badUnlisted, wrongCounts, netRefusal, netsRefusal, checkRefusal, badByte, badLength}
-use Rattle.netlist.proofs.Refusals.{refuse-none, not-above, not-other, byte-none, length-none, accepted}
-use Rattle.netlist.proofs.Checked.{length-nets}
-use Rattle.tracker.specs.Calls.{refused, lentRefusal, powerUpRefusal, powerUpOf, stepRefusal, stepOf, asStep, runRefusal, runOf, asRun}
-use Rattle.tracker.proofs.Calls.{power-up-accepted, power-up-refused, step-accepted, step-refused, run-accepted, run-refused}
+use Rattle.image.specs.declared.image.Net.{Net}
+use Rattle.image.specs.Image.{sizesOf, net, netsOf}
+use Rattle.image.proofs.Nets.{length-nets}
+use Rattle.refusals.specs.declared.answer.Refusal.{Refusal}
+use Rattle.refusals.specs.Refusals.{refusal, refuse, _then_, plainBytes, badByte, badLength}
+use Rattle.refusals.proofs.Refusals.{refuse-none, not-above, not-other, byte-none, length-none, accepted}
+use Rattle.net_checking.specs.NetCheck.{badPin, badValue, badUnlisted, netRefusal}
+use Rattle.checking.specs.Check.{wrongCounts, netsRefusal, checkRefusal}
+use Rattle.cycle.specs.Calls.{stateLength, refused, lentRefusal, powerUpRefusal, powerUpOf, stepRefusal, stepOf, asStep, runRefusal, runOf, asRun}
+use Rattle.cycle.proofs.Calls.{power-up-accepted, power-up-refused, step-accepted, step-refused, run-accepted, run-refused}
 use Rattle.doubling.specs.Doubled.{doubledSize, doubleRefusal, doubleOf}
 use Rattle.doubling.proofs.Checks.{double-accepted, double-refused}
-use Rattle.claims.specs.Accepted.{Sized, Codes, AcceptedImage, AcceptedState}
+use Rattle.claims.specs.Accepted.{Sized, NoneAbove3, AcceptedImage, AcceptedState}
 use Rattle.claims.specs.Refused.{AnyCall, check, power-up, step, run, double, Gives, BadNet, kind, pin, value, unlisted, BadImage, short, no-nets, many-nets, inexact, bad-net, miscounted, FirstAbove3, BadLent, state-size, state-byte, row-size, row-byte, buffer-size, Refused, bad-image, bad-state, bad-step, many-cycles, bad-run, doubled-large, doubled-size, Refusals}
 use Rattle.claims.proofs.InTurn.{InTurn, given-first, first-given}
 use Rattle.claims.proofs.Accepted as accept
@@ -47,11 +49,11 @@ length-tells : {P : ℕ → ℕ → Type 0} (number n : ℕ) (xs : List ℕ) →
 unfolding badLength
 length-tells number n xs h = line (not (eqb (length xs) n)) number 0 (λ e. h (λ l. clash e (not-other _ _ .1 l)))
 
-bytes-in-turn : (number : ℕ) → InTurn (λ i x. refuse (ltb 3 x) number i) (badByte number)
+bytes-in-turn : (number : ℕ) → InTurn (λ i x. refuse (ltb 3 x) number i) (badByte (ltb 3) number)
 unfolding badByte
 bytes-in-turn number = record { at-end = λ i. refl; next = λ i x xs. refl }
 
-bytes-tell : {P : ℕ → ℕ → Type 0} (number : ℕ) (xs : List ℕ) → ((i : ℕ) → FirstAbove3 xs i → P number i) → Tells (badByte number 0 xs) P
+bytes-tell : {P : ℕ → ℕ → Type 0} (number : ℕ) (xs : List ℕ) → ((i : ℕ) → FirstAbove3 xs i → P number i) → Tells (badByte (ltb 3) number 0 xs) P
 bytes-tell {P} number xs h =
     record {
       given = λ e.
@@ -102,9 +104,9 @@ image-tells s =
     (λ d. line (wrongCounts s) 8 0 (λ e. miscounted z (accept.nets s .0 d) (λ x. clash e (accept.counts s .1 x)))))))
 
 lent-tells : {s : List ℕ} {rowBytes filled : ℕ} (st rows buffer : List ℕ)
-    → Tells (lentRefusal (sizesOf s .registers) rowBytes filled st rows buffer) (BadLent s rowBytes filled st rows buffer)
+    → Tells (lentRefusal plainBytes (stateLength (sizesOf s)) rowBytes filled st rows buffer) (BadLent s rowBytes filled st rows buffer)
 lent-tells {s} {rowBytes} {filled} st rows buffer =
-    one-then (length-tells 10 (sizesOf s .registers) st state-size)
+    one-then (length-tells 10 (stateLength (sizesOf s)) st state-size)
     (λ a. let l = length-none _ _ st .0 a in
     one-then (bytes-tell 11 st (λ i. state-byte l))
     (λ b. let q : AcceptedState s st = record { size = l; codes = accept.each (byte-none _ _ st .0 b) } in
@@ -118,12 +120,12 @@ length-drawn : (number n : ℕ) (xs : List ℕ) → (length xs ≡ n → ⊥) �
 unfolding badLength
 length-drawn number n xs h = rw (ne-eqb (length xs) n h)
 
-byte-drawn : (number : ℕ) (xs : List ℕ) {i : ℕ} → FirstAbove3 xs i → badByte number 0 xs ≡ some (refusal number i)
+byte-drawn : (number : ℕ) (xs : List ℕ) {i : ℕ} → FirstAbove3 xs i → badByte (ltb 3) number 0 xs ≡ some (refusal number i)
 byte-drawn number xs {i} w =
     given-first 0 (bytes-in-turn number) xs i
     (record { below = w .below; before = λ k l. rw (le-ltb 3 (getD xs k 0) (w .first k l)); here = rw (lt-ltb 3 (getD xs i 0) (w .above)) })
 
-no-byte : (number : ℕ) (xs : List ℕ) → Codes xs → badByte number 0 xs ≡ none
+no-byte : (number : ℕ) (xs : List ℕ) → NoneAbove3 xs → badByte (ltb 3) number 0 xs ≡ none
 no-byte number xs h = byte-none number 0 xs .1 (accept.together xs h)
 
 -- what is not false is true
@@ -163,7 +165,7 @@ image-drawn {s} (bad-net {i = i} z l before b) =
 image-drawn {s} (miscounted z nets h) = past-sizes z ∙ rw (accept.nets s .1 nets, so (accept.counts s) h)
 
 lent-drawn : {s : List ℕ} {rowBytes filled : ℕ} {st rows buffer : List ℕ} {number place : ℕ} → BadLent s rowBytes filled st rows buffer number place
-    → lentRefusal (sizesOf s .registers) rowBytes filled st rows buffer ≡ some (refusal number place)
+    → lentRefusal plainBytes (stateLength (sizesOf s)) rowBytes filled st rows buffer ≡ some (refusal number place)
 lent-drawn {st = st} (state-size h) = rw (length-drawn 10 _ st h)
 lent-drawn {st = st} (state-byte l w) = rw (length-none 10 _ st .1 l, byte-drawn 11 st w)
 lent-drawn {st = st} {rows} (row-size q h) = rw (length-none 10 _ st .1 (q .size), no-byte 11 st (q .codes), length-drawn 12 _ rows h)
@@ -180,15 +182,15 @@ lent-drawn {st = st} {rows} {buffer} (buffer-size q r h) =
 -- THE CALLS: what a call is tried for behind 1 to 8
 abbrev behind : (s : List ℕ) → AnyCall → Option Refusal
 behind s check = none
-behind s (power-up st) = badLength 10 (sizesOf s .registers) st
-behind s (step st row nets) = lentRefusal (sizesOf s .registers) (sizesOf s .inputs) (sizesOf s .nets) st row nets
+behind s (power-up st) = badLength 10 (stateLength (sizesOf s)) st
+behind s (step st row nets) = lentRefusal plainBytes (stateLength (sizesOf s)) (sizesOf s .inputs) (sizesOf s .nets) st row nets
 behind s (run st k rows outputs) =
-    refuse (ltb 4096 k) 9 0 then lentRefusal (sizesOf s .registers) (k * sizesOf s .inputs) (k * sizesOf s .outputs) st rows outputs
+    refuse (ltb 4096 k) 9 0 then lentRefusal plainBytes (stateLength (sizesOf s)) (k * sizesOf s .inputs) (k * sizesOf s .outputs) st rows outputs
 behind s (double buf) = refuse (ltb 8192 (doubledSize (netsOf s))) 15 0 then badLength 16 (8 + 7 * doubledSize (netsOf s)) buf
 
 behind-tells : (s : List ℕ) (c : AnyCall) → AcceptedImage s → Tells (behind s c) (Refused s c)
 behind-tells s check a = record { given = λ e. absurd (not-some e) }
-behind-tells s (power-up st) a = length-tells 10 (sizesOf s .registers) st (bad-state a)
+behind-tells s (power-up st) a = length-tells 10 (stateLength (sizesOf s)) st (bad-state a)
 behind-tells s (step st row nets) a = record { given = λ e. bad-step a (lent-tells st row nets .given e) }
 behind-tells s (run st k rows outputs) a =
     one-then (line (ltb 4096 k) 9 0 (λ e. many-cycles a (ltb-true _ _ e)))

@@ -2,11 +2,11 @@
 use Prim.Native.Nat.{ℕ, zero, suc, _+_, _*_, _/_, _%_}
 use native.Mathlib.Omega.{arith}
 use mathlib.Core.Path.{_≡_, refl}
-use mathlib.Core.List.{List, [], _∷_, _++_}
+use mathlib.Core.List.{List, [], _∷_}
 use lib.ListN.{getD}
-use Rattle.doubling.specs.Doubled.{split}
+use Rattle.groups.specs.Groups.{split}
 use Rattle.doubling.proofs.Simulation.{two-more}
-use Rattle.claims.specs.OneRun.{InTwo}
+use Rattle.claims.specs.InBytes.{InTwo}
 
 two-one-more : (j : ℕ) → 2 * suc j + 1 ≡ suc (suc (2 * j + 1))
 two-one-more j = omega arith
@@ -22,11 +22,6 @@ unfolding split
 split-mark [] j = refl
 split-mark (x ∷ xs) zero = refl
 split-mark (x ∷ xs) (suc j) = rw (two-one-more j) (split-mark xs j)
-
-pub split-append : (xs ys : List ℕ) → split (xs ++ ys) ≡ split xs ++ split ys
-unfolding split
-split-append [] ys = refl
-split-append (x ∷ xs) ys = rw (split-append xs ys)
 
 -- bytes that stand so are the two bytes for each
 rest-in-two : {x y z : ℕ} {xs ys : List ℕ} → InTwo (x ∷ xs) (y ∷ z ∷ ys) → InTwo xs ys

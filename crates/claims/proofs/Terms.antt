@@ -7,9 +7,9 @@ use mathlib.Core.Bool.{Bool, true, false}
 use borrow.Author.Tests.{eq-eqb, ne-eqb}
 use Rattle.gates.specs.Rules.{mark}
 use Rattle.gates.specs.Relations.{same}
-use Rattle.netlist.specs.Image.{sizesOf, netsOf, count}
-use Rattle.netlist.proofs.Checked.{length-nets}
-use Rattle.tracker.specs.Cycle.{cycleOf}
+use Rattle.image.specs.Image.{sizesOf, netsOf, count}
+use Rattle.image.proofs.Nets.{length-nets}
+use Rattle.cycle.specs.Cycle.{cycleOf}
 use Rattle.doubling.proofs.Positions.{value-end}
 use Rattle.claims.specs.Terms.{Terms}
 

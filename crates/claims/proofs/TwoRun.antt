@@ -7,16 +7,17 @@ use lib.Dec.{ltb}
 use lib.ListN.{length, getD}
 use Rattle.gates.specs.Relations.{AgreeByte, same, low-high, high-low, Agree}
 use Rattle.gates.proofs.Meaning.{agree-means}
-use Rattle.netlist.specs.Image.{sizesOf, netsOf}
-use Rattle.netlist.specs.declared.answer.Refusal.{Refusal}
-use Rattle.netlist.specs.Check.{refuse, _then_, checkRefusal, badByte, badLength}
-use Rattle.netlist.proofs.Pairs.{pairs-refl, pairs-getD, pairs-length, pairs-append, pairs-map, pairs-square}
-use Rattle.netlist.proofs.Checked.{Checked, check-none}
-use Rattle.tracker.specs.Cycle.{Cycle, firstOf, firstFlow}
-use Rattle.tracker.specs.Calls.{done, Stepped, powerUpOf, asStep, lentRefusal, stepRefusal, runRefusal}
-use Rattle.tracker.proofs.Cycles.{Related, outputs-length, agree-outputs, agree-cycle, agree-cycles, outputs-of-related, state-after-related}
-use Rattle.tracker.proofs.Calls.{step-none, run-none, starts-state, powered-up}
-use Rattle.doubling.specs.Doubled.{split}
+use Rattle.image.specs.Image.{sizesOf, netsOf}
+use Rattle.image.proofs.Pairs.{pairs-refl, pairs-getD, pairs-length, pairs-append, pairs-map, pairs-square}
+use Rattle.refusals.specs.declared.answer.Refusal.{Refusal}
+use Rattle.refusals.specs.Refusals.{refuse, _then_, plainBytes, badByte, badLength}
+use Rattle.checking.specs.Check.{checkRefusal}
+use Rattle.checking.proofs.Checked.{Checked, check-none}
+use Rattle.cycle.specs.Cycle.{Cycle, firstOf, firstFlow}
+use Rattle.cycle.specs.Calls.{stateLength, done, Stepped, powerUpOf, asStep, lentRefusal, stepRefusal, runRefusal}
+use Rattle.cycle.proofs.Cycles.{Related, outputs-length, agree-outputs, agree-cycle, agree-cycles, outputs-of-related, state-after-related}
+use Rattle.cycle.proofs.Calls.{step-none, run-none, starts-state, powered-up}
+use Rattle.groups.specs.Groups.{split}
 use Rattle.doubling.proofs.Simulation.{split-length}
 use Rattle.claims.specs.History.{Call, refusalOf, stepped, ran, callResult, history, cyclesIn, Finished}
 use Rattle.claims.specs.Pairing.{shown, Shows}
@@ -33,7 +34,7 @@ same-length : (xs ys : List ℕ) (number n : ℕ) → length xs ≡ length ys �
 unfolding badLength
 same-length xs ys number n h = rw h
 
-same-byte : {xs ys : List ℕ} (number i : ℕ) → Agree xs ys → badByte number i xs ≡ badByte number i ys
+same-byte : {xs ys : List ℕ} (number i : ℕ) → Agree xs ys → badByte (ltb 3) number i xs ≡ badByte (ltb 3) number i ys
 unfolding badByte
 same-byte number i Forall₂·nil = refl
 same-byte number i (Forall₂·cons same t) = rw (same-byte number (suc i) t)
@@ -41,7 +42,7 @@ same-byte number i (Forall₂·cons low-high t) = rw (same-byte number (suc i) t
 same-byte number i (Forall₂·cons high-low t) = rw (same-byte number (suc i) t)
 
 same-lent : (registers pins filled : ℕ) {st st′ r r′ : List ℕ} (b b′ : List ℕ) → Agree st st′ → Agree r r′ → length b ≡ length b′
-    → lentRefusal registers pins filled st r b ≡ lentRefusal registers pins filled st′ r′ b′
+    → lentRefusal plainBytes registers pins filled st r b ≡ lentRefusal plainBytes registers pins filled st′ r′ b′
 same-lent registers pins filled {st} {st′} {r} {r′} b b′ q p h =
     rw (
       same-length st st′ 10 registers (pairs-length q),
@@ -121,7 +122,7 @@ unfolding history cyclesIn
 same-cycles s q Forall₂·nil = Forall₂·nil
 same-cycles s q (Forall₂·cons m ms) = let p = place s q m in pairs-append (p .cycles) (same-cycles s (p .state) ms)
 
-powered-agree : {s : List ℕ} → Checked s → (a b : List ℕ) → length a ≡ sizesOf s .registers → length b ≡ sizesOf s .registers
+powered-agree : {s : List ℕ} → Checked s → (a b : List ℕ) → length a ≡ stateLength (sizesOf s) → length b ≡ stateLength (sizesOf s)
     → Agree (powerUpOf s a .state) (powerUpOf s b .state)
 powered-agree {s} c a b l k = rw (powered-up s a c l, powered-up s b c k) (agree-refl _)
 

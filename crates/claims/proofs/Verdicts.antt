@@ -11,9 +11,9 @@ use borrow.Author.Tests.{eqb-true}
 use Rattle.gates.specs.Kinds.{OUT}
 use Rattle.gates.specs.Rules.{mark}
 use Rattle.gates.proofs.EachCode.{both}
-use Rattle.netlist.specs.declared.image.Net.{Net}
-use Rattle.netlist.specs.Image.{net}
-use Rattle.tracker.specs.Cycle.{Verdict, clear, flow, verdictFrom, Cycle, cycleOf, FirstFlow, firstOf, firstFlow}
+use Rattle.image.specs.declared.image.Net.{Net}
+use Rattle.image.specs.Image.{net}
+use Rattle.cycle.specs.Cycle.{Verdict, clear, flow, verdictFrom, Cycle, cycleOf, FirstFlow, firstOf, firstFlow}
 use Rattle.claims.specs.Verdicts.{MarkedOutput, Judged, none, lowest, Verdicts, First, all-clear, first, FirstFlows}
 
 -- the test of the definition, at a net with byte b

@@ -6,10 +6,10 @@ use mathlib.Core.Path.{_≡_}
 use mathlib.Core.List.{List}
 use mathlib.Core.Option.{none}
 use lib.ListN.{length, getD}
-use Rattle.netlist.specs.declared.image.Net.{Net}
-use Rattle.netlist.specs.Image.{sizesOf, netsOf, count}
-use Rattle.netlist.specs.Check.{checkRefusal}
-use Rattle.tracker.specs.Calls.{powerUpRefusal, stepRefusal, runRefusal}
+use Rattle.image.specs.declared.image.Net.{Net}
+use Rattle.image.specs.Image.{sizesOf, netsOf, count}
+use Rattle.checking.specs.Check.{checkRefusal}
+use Rattle.cycle.specs.Calls.{stateLength, powerUpRefusal, stepRefusal, runRefusal}
 use Rattle.doubling.specs.Doubled.{doubledSize, doubleRefusal}
 use Rattle.claims.specs.Reading.{netOf}
 
@@ -64,23 +64,23 @@ pub record AcceptedImage (s : List ℕ) : Type 0 where
   pub counts : RightCounts s
 
 -- no byte is above 3
-abbrev pub Codes : List ℕ → Type 0
-Codes xs = (i : ℕ) → i < length xs → getD xs i 0 ≤ 3
+abbrev pub NoneAbove3 : List ℕ → Type 0
+NoneAbove3 xs = (i : ℕ) → i < length xs → getD xs i 0 ≤ 3
 
 -- neither 10 nor 11 applies
 pub record AcceptedState (s st : List ℕ) : Type 0 where
-  pub size : length st ≡ sizesOf s .registers
-  pub codes : Codes st
+  pub size : length st ≡ stateLength (sizesOf s)
+  pub codes : NoneAbove3 st
 
 -- neither 12 nor 13 applies, with n row bytes wanted
 pub record AcceptedRows (n : ℕ) (rows : List ℕ) : Type 0 where
   pub size : length rows ≡ n
-  pub codes : Codes rows
+  pub codes : NoneAbove3 rows
 
 -- proved as `when-accepted`
 pub record Accepted : Type 0 where
   pub check : (s : List ℕ) → (checkRefusal s ≡ none) ↔ AcceptedImage s
-  pub power-up : (s st : List ℕ) → (powerUpRefusal s st ≡ none) ↔ (AcceptedImage s × (length st ≡ sizesOf s .registers))
+  pub power-up : (s st : List ℕ) → (powerUpRefusal s st ≡ none) ↔ (AcceptedImage s × (length st ≡ stateLength (sizesOf s)))
   pub step : (s st row nets : List ℕ)
       → (stepRefusal s st row nets ≡ none) ↔ (AcceptedImage s × AcceptedState s st × AcceptedRows (sizesOf s .inputs) row × (length nets ≡ sizesOf s .nets))
   pub run : (s st : List ℕ) (k : ℕ) (rows outputs : List ℕ)

@@ -5,9 +5,10 @@ use mathlib.Core.List.{List}
 use mathlib.Core.Option.{none}
 use lib.ListN.{length, getD}
 use Rattle.gates.specs.Kinds.{REG, OUT}
-use Rattle.netlist.specs.Image.{sizesOf, net, netsOf}
-use Rattle.netlist.specs.Check.{checkRefusal}
-use Rattle.doubling.specs.Doubled.{groupLength, groupAt, doubledSize, valueNet, markNet, doubledNets, doubledImage, doubleRefusal, doubleOf}
+use Rattle.image.specs.Image.{sizesOf, net, netsOf}
+use Rattle.checking.specs.Check.{checkRefusal}
+use Rattle.groups.specs.Groups.{groupLength}
+use Rattle.doubling.specs.Doubled.{groupAt, doubledSize, valueNet, markNet, doubledNets, doubledImage, doubleRefusal, doubleOf}
 use Rattle.claims.specs.NetBytes.{netOf}
 
 -- every image that doubling writes passes checking, so 17 is never given; proved as `doubled-checks`

@@ -3,9 +3,9 @@ use Prim.Native.Nat.{ℕ}
 use mathlib.Core.Path.{_≡_}
 use mathlib.Core.List.{List, [], _∷_, _++_}
 use mathlib.Core.Option.{Option, none, some}
-use Rattle.netlist.specs.declared.answer.Refusal.{Refusal}
-use Rattle.tracker.specs.Cycle.{Verdict, FirstFlow}
-use Rattle.tracker.specs.Calls.{Answer, done, refused, Stepped, stepOf, stepRefusal, Ran, runOf, runRefusal}
+use Rattle.refusals.specs.declared.answer.Refusal.{Refusal}
+use Rattle.cycle.specs.Cycle.{Verdict, FirstFlow}
+use Rattle.cycle.specs.Calls.{Answer, done, refused, Stepped, stepOf, stepRefusal, Ran, runOf, runRefusal}
 use Rattle.claims.specs.Steps.{stepsOf, AsSteps}
 
 -- a call, with its row bytes and the buffer that it is lent

@@ -14,5 +14,5 @@ pub mod DoubledImage
 pub mod Groups
 pub mod Pairing
 pub mod TwoRun
-pub mod OneRun
+pub mod InBytes
 pub mod Promised

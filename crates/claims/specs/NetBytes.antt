@@ -6,10 +6,11 @@ use mathlib.Core.Option.{none}
 use lib.ListN.{length, getD, take}
 use Rattle.gates.specs.Kinds.{CONST, INPUT, REG, NOT, AND, OR, XOR, MUX, OUT}
 use Rattle.gates.specs.Rules.{notByte, andByte, orByte, xorByte, muxByte}
-use Rattle.netlist.specs.declared.image.Net.{Net}
-use Rattle.netlist.specs.Image.{sizesOf, net, netsOf, count}
-use Rattle.netlist.specs.Check.{checkRefusal}
-use Rattle.tracker.specs.Cycle.{Cycle, cycleOf}
+use Rattle.image.specs.declared.image.Net.{Net}
+use Rattle.image.specs.Image.{sizesOf, net, netsOf, count}
+use Rattle.checking.specs.Check.{checkRefusal}
+use Rattle.cycle.specs.Cycle.{Cycle, cycleOf}
+use Rattle.cycle.specs.Calls.{stateLength}
 pub use Rattle.claims.specs.Reading.{netOf}
 
 -- "Inputs, registers and outputs are each counted in net order": the place of net i among the nets of its kind k is how many of them stand before it
@@ -45,14 +46,14 @@ pub record NetBytes (s row st : List ℕ) (c : Cycle) : Type 0 where
   pub net-byte : (i : ℕ) → i < sizesOf s .nets → HasByte s row st (c .bytes) i (netOf s i) (getD (c .bytes) i 0)
   pub outputs : length (c .outputs) ≡ sizesOf s .outputs
   pub output-byte : (i : ℕ) → i < sizesOf s .nets → netOf s i .kind ≡ OUT → Counted OUT s i (c .outputs) (getD (c .bytes) i 0)
-  pub registers : length (c .state) ≡ sizesOf s .registers
+  pub registers : length (c .state) ≡ stateLength (sizesOf s)
   pub clock : (i : ℕ) → i < sizesOf s .nets → netOf s i .kind ≡ REG → Counted REG s i (c .state) (getD (c .bytes) (netOf s i .a) 0)
 
 -- every cycle on an accepted image, with a row of I bytes and a state of R. An accepted step is one (StepIsCycle of Steps), and an accepted run is its steps (AsSteps).
 -- Proved as `net-bytes`
 abbrev pub NetBytesAll : Type 0
 NetBytesAll =
-    (s row st : List ℕ) → checkRefusal s ≡ none → length row ≡ sizesOf s .inputs → length st ≡ sizesOf s .registers
+    (s row st : List ℕ) → checkRefusal s ≡ none → length row ≡ sizesOf s .inputs → length st ≡ stateLength (sizesOf s)
     → NetBytes s row st (cycleOf (netsOf s) row st)
 
 -- and no other bytes are such: N bytes of which each is the one that its net may have are the bytes of the cycle, in whatever order they were worked out.

@@ -4,11 +4,12 @@ use mathlib.Core.Path.{_≡_}
 use mathlib.Core.List.{List, map, Forall₂}
 use mathlib.Core.Option.{none}
 use lib.ListN.{length}
-use Rattle.netlist.specs.Image.{sizesOf, netsOf}
-use Rattle.netlist.specs.Check.{checkRefusal}
-use Rattle.tracker.specs.Cycle.{outputsFrom}
-use Rattle.tracker.specs.Calls.{Stepped, powerUpOf}
-use Rattle.doubling.specs.Doubled.{doubledSize, doubleOf, split}
+use Rattle.image.specs.Image.{sizesOf, netsOf}
+use Rattle.checking.specs.Check.{checkRefusal}
+use Rattle.cycle.specs.Cycle.{outputsFrom}
+use Rattle.cycle.specs.Calls.{stateLength, Stepped, powerUpOf}
+use Rattle.groups.specs.Groups.{split}
+use Rattle.doubling.specs.Doubled.{doubledSize, doubleOf}
 use Rattle.claims.specs.History.{Call, step, run, history, accepted, cyclesIn, AllFinished, AllMade}
 
 -- a call made again on the doubled image d: each row byte as two, and any buffer of the right length
@@ -37,7 +38,7 @@ pub record DoublingPairs (s buf : List ℕ) : Type 0 where
   pub written : doubleOf s buf .refusal ≡ none
   pub paired :
       let d = doubleOf s buf .buffer in
-      (a b : List ℕ) → length a ≡ sizesOf s .registers → length b ≡ sizesOf d .registers
+      (a b : List ℕ) → length a ≡ stateLength (sizesOf s) → length b ≡ stateLength (sizesOf d)
       → (cs cs′ : List Call) → Forall₂ (Again d) (accepted s (powerUpOf s a .state) cs) cs′
       → Paired s d a b cs cs′
 

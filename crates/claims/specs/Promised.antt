@@ -17,7 +17,7 @@ use Rattle.claims.specs.DoubledImage.{DoubledChecks, DoublingWrites, Dou
 use Rattle.claims.specs.Groups.{Groups}
 use Rattle.claims.specs.Pairing.{Demand2}
 use Rattle.claims.specs.TwoRun.{Demand3}
-use Rattle.claims.specs.OneRun.{ClearStays, StepsAgree, DoubledShows}
+use Rattle.claims.specs.InBytes.{ClearStays, StepsAgree, DoubledShows}
 
 pub record Promised : Type 0 where
   -- FIRST, what most users lean on. A run from power-up that is clear stays clear, and shows the same bytes at its protected OUTs, whatever the untrusted pins do.

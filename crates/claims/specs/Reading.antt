@@ -3,8 +3,8 @@ use Prim.Native.Nat.{ℕ, _+_, _*_, _<_}
 use mathlib.Core.Path.{_≡_}
 use mathlib.Core.List.{List}
 use lib.ListN.{length, getD}
-use Rattle.netlist.specs.declared.image.Net.{Net}
-use Rattle.netlist.specs.Image.{sizesOf, net, netsOf}
+use Rattle.image.specs.declared.image.Net.{Net}
+use Rattle.image.specs.Image.{sizesOf, net, netsOf}
 
 -- net i of an image
 abbrev pub netOf : List ℕ → (i : ℕ) → Net

@@ -6,11 +6,11 @@ use mathlib.Core.Path.{_≡_}
 use mathlib.Core.List.{List}
 use mathlib.Core.Option.{some}
 use lib.ListN.{length, getD}
-use Rattle.netlist.specs.declared.image.Net.{Net}
-use Rattle.netlist.specs.Image.{sizesOf, netsOf}
-use Rattle.netlist.specs.declared.answer.Refusal.{Refusal}
-use Rattle.netlist.specs.Check.{checkRefusal}
-use Rattle.tracker.specs.Calls.{refused, powerUpOf, stepOf, runOf}
+use Rattle.image.specs.declared.image.Net.{Net}
+use Rattle.image.specs.Image.{sizesOf, netsOf}
+use Rattle.refusals.specs.declared.answer.Refusal.{Refusal}
+use Rattle.checking.specs.Check.{checkRefusal}
+use Rattle.cycle.specs.Calls.{stateLength, refused, powerUpOf, stepOf, runOf}
 use Rattle.doubling.specs.Doubled.{doubledSize, doubleOf}
 use Rattle.claims.specs.Reading.{netOf}
 use Rattle.claims.specs.Accepted.{Sized, PinsBelow, ValuesListed, UnlistedZero, NetsAccepted, RightCounts, AcceptedImage, AcceptedState, AcceptedRows}
@@ -59,8 +59,8 @@ module _ (s : List ℕ) where
   -- of 10 to 14, where rowBytes bytes are wanted in the rows and filled bytes in the buffer
   module _ (rowBytes filled : ℕ) (st rows buffer : List ℕ) where
     pub data BadLent : (number place : ℕ) → Type 0 where
-      state-size : (length st ≡ sizesOf s .registers → ⊥) → BadLent 10 0
-      state-byte : {i : ℕ} → length st ≡ sizesOf s .registers → FirstAbove3 st i → BadLent 11 i
+      state-size : (length st ≡ stateLength (sizesOf s) → ⊥) → BadLent 10 0
+      state-byte : {i : ℕ} → length st ≡ stateLength (sizesOf s) → FirstAbove3 st i → BadLent 11 i
       row-size : AcceptedState s st → (length rows ≡ rowBytes → ⊥) → BadLent 12 0
       row-byte : {i : ℕ} → AcceptedState s st → length rows ≡ rowBytes → FirstAbove3 rows i → BadLent 13 i
       buffer-size : AcceptedState s st → AcceptedRows rowBytes rows → (length buffer ≡ filled → ⊥) → BadLent 14 0
@@ -70,7 +70,7 @@ module _ (s : List ℕ) where
     -- 1 to 8: every call
     bad-image : {c : AnyCall} {number place : ℕ} → BadImage number place → Refused c number place
     -- 10: power-up
-    bad-state : {st : List ℕ} → AcceptedImage s → (length st ≡ sizesOf s .registers → ⊥) → Refused (power-up st) 10 0
+    bad-state : {st : List ℕ} → AcceptedImage s → (length st ≡ stateLength (sizesOf s) → ⊥) → Refused (power-up st) 10 0
     -- 10 to 14: a step
     bad-step :
         {st row nets : List ℕ} {number place : ℕ} → AcceptedImage s

@@ -7,9 +7,9 @@ use mathlib.Core.Bool.{true}
 use Rattle.gates.specs.Kinds.{CONST, INPUT, REG, NOT, AND, OR, XOR, MUX, OUT}
 use Rattle.gates.specs.Rules.{mark}
 use Rattle.gates.specs.Relations.{AgreeByte}
-use Rattle.netlist.specs.declared.image.Net.{Net}
-use Rattle.netlist.specs.Image.{sizesOf, netsOf, count}
-use Rattle.tracker.specs.Cycle.{cycleOf, outputsFrom}
+use Rattle.image.specs.declared.image.Net.{Net}
+use Rattle.image.specs.Image.{sizesOf, netsOf, count}
+use Rattle.cycle.specs.Cycle.{cycleOf, outputsFrom}
 use Rattle.doubling.specs.Doubled.{doubledSize, valueNet}
 
 -- proved as `terms`

@@ -5,10 +5,10 @@ use mathlib.Core.List.{List, [], _∷_, Forall₂}
 use mathlib.Core.Option.{none}
 use lib.ListN.{length, getD}
 use Rattle.gates.specs.Relations.{Agree}
-use Rattle.netlist.specs.Image.{sizesOf, netsOf}
-use Rattle.netlist.specs.declared.answer.Refusal.{Refusal}
-use Rattle.netlist.specs.Check.{checkRefusal}
-use Rattle.tracker.specs.Calls.{Stepped, powerUpOf}
+use Rattle.image.specs.Image.{sizesOf, netsOf}
+use Rattle.refusals.specs.declared.answer.Refusal.{Refusal}
+use Rattle.checking.specs.Check.{checkRefusal}
+use Rattle.cycle.specs.Calls.{stateLength, Stepped, powerUpOf}
 use Rattle.doubling.specs.Doubled.{doubledSize, doubleOf}
 use Rattle.claims.specs.History.{Call, step, run, CallResult, history, accepted, cyclesIn, TurnedBack, Finished, AllFinished, Made, AllMade}
 use Rattle.claims.specs.Pairing.{Again, shown}
@@ -52,17 +52,17 @@ pub record SameShown (s d : List ℕ) (o o′ : Stepped) : Type 0 where
 -- on the doubled image that it writes into buf, from its own power-up of states that held a′ and b′
 pub record TwoRun (s : List ℕ) (cs ds : List Call) : Type 0 where
   pub powered-up :
-      (a : List ℕ) → length a ≡ sizesOf s .registers
-      → (powerUpOf s a .refusal ≡ none) × (length (powerUpOf s a .state) ≡ sizesOf s .registers)
+      (a : List ℕ) → length a ≡ stateLength (sizesOf s)
+      → (powerUpOf s a .refusal ≡ none) × (length (powerUpOf s a .state) ≡ stateLength (sizesOf s))
   pub calls : (st st′ : List ℕ) → Agree st st′ → SameCalls s st st′ cs ds
   pub from-power-up :
-      (a b : List ℕ) → length a ≡ sizesOf s .registers → length b ≡ sizesOf s .registers
+      (a b : List ℕ) → length a ≡ stateLength (sizesOf s) → length b ≡ stateLength (sizesOf s)
       → SameCalls s (powerUpOf s a .state) (powerUpOf s b .state) cs ds
   pub doubled :
       doubledSize (netsOf s) ≤ 8192 → (buf : List ℕ) → length buf ≡ 8 + 7 * doubledSize (netsOf s)
       → let d = doubleOf s buf .buffer in
-      (a b a′ b′ : List ℕ) → length a ≡ sizesOf s .registers → length b ≡ sizesOf s .registers
-      → length a′ ≡ sizesOf d .registers → length b′ ≡ sizesOf d .registers
+      (a b a′ b′ : List ℕ) → length a ≡ stateLength (sizesOf s) → length b ≡ stateLength (sizesOf s)
+      → length a′ ≡ stateLength (sizesOf d) → length b′ ≡ stateLength (sizesOf d)
       → (cs′ ds′ : List Call)
       → Forall₂ (Again d) (accepted s (powerUpOf s a .state) cs) cs′
       → Forall₂ (Again d) (accepted s (powerUpOf s b .state) ds) ds′

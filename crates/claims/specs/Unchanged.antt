@@ -3,8 +3,8 @@ use Prim.Native.Nat.{ℕ}
 use mathlib.Core.Path.{_≡_}
 use mathlib.Core.List.{List}
 use mathlib.Core.Option.{some}
-use Rattle.netlist.specs.declared.answer.Refusal.{Refusal}
-use Rattle.tracker.specs.Calls.{refused, powerUpOf, stepOf, runOf}
+use Rattle.refusals.specs.declared.answer.Refusal.{Refusal}
+use Rattle.cycle.specs.Calls.{refused, powerUpOf, stepOf, runOf}
 use Rattle.doubling.specs.Doubled.{doubleOf}
 
 -- proved as `unchanged`

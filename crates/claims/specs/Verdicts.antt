@@ -6,9 +6,9 @@ use mathlib.Core.Bool.{true}
 use lib.ListN.{length, getD}
 use Rattle.gates.specs.Kinds.{OUT}
 use Rattle.gates.specs.Rules.{mark}
-use Rattle.netlist.specs.declared.image.Net.{Net}
-use Rattle.netlist.specs.Image.{net}
-use Rattle.tracker.specs.Cycle.{Verdict, clear, flow, Cycle, cycleOf, FirstFlow, firstFlow}
+use Rattle.image.specs.declared.image.Net.{Net}
+use Rattle.image.specs.Image.{net}
+use Rattle.cycle.specs.Cycle.{Verdict, clear, flow, Cycle, cycleOf, FirstFlow, firstFlow}
 
 -- net i is a protected OUT with mark 1, by the bytes bs of all nets
 pub record MarkedOutput (xs : List Net) (bs : List ℕ) (i : ℕ) : Type 0 where

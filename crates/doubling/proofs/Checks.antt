@@ -8,14 +8,19 @@ use mathlib.Core.Bool.{cond}
 use native.Mathlib.Omega.{arith}
 use lib.Dec.{eqb}
 use lib.ListN.{length, replicate}
-use Rattle.netlist.specs.declared.image.Net.{Net}
-use Rattle.netlist.specs.Image.{sizesOf, netsOf, count}
-use Rattle.netlist.specs.declared.answer.Refusal.{Refusal}
-use Rattle.netlist.specs.Check.{refusal, checkRefusal}
-use Rattle.netlist.proofs.Refusals.{accepted}
-use Rattle.netlist.proofs.Checked.{Passes, is-const, is-input, is-reg, is-not, is-and, is-or, is-xor, is-mux, is-out, AllPass, nil, cons, Checked, check-none, length-nets, count-most}
-use Rattle.netlist.proofs.Encoding.{encode-length, sizes-back, nets-back, Bytes, encode-bytes}
-use Rattle.doubling.specs.Doubled.{doubledSize, valueNet, markNet, groupOf, groupAt, groupsFrom, doubledNets, pairedSizes, doubledImage, doubleRefusal, doubleOf}
+use Rattle.image.specs.declared.image.Net.{Net}
+use Rattle.image.specs.Image.{sizesOf, netsOf, count}
+use Rattle.image.proofs.Nets.{length-nets, count-most}
+use Rattle.image.proofs.Encoding.{encode-length, sizes-back, nets-back, Bytes}
+use Rattle.refusals.specs.declared.answer.Refusal.{Refusal}
+use Rattle.refusals.specs.Refusals.{refusal}
+use Rattle.refusals.proofs.Refusals.{accepted}
+use Rattle.net_checking.proofs.Passes.{Passes, is-const, is-input, is-reg, is-not, is-and, is-or, is-xor, is-mux, is-out}
+use Rattle.checking.specs.Check.{checkRefusal}
+use Rattle.checking.proofs.Checked.{AllPass, nil, cons, Checked, check-none}
+use Rattle.checking.proofs.Encoded.{encode-bytes}
+use Rattle.groups.specs.Groups.{groupOf}
+use Rattle.doubling.specs.Doubled.{doubledSize, valueNet, markNet, groupAt, groupsFrom, doubledNets, pairedSizes, doubledImage, doubleRefusal, doubleOf}
 use Rattle.doubling.proofs.Positions.{two-or-more, doubled-length, doubled-passes}
 
 -- the kinds that are counted

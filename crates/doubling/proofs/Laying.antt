@@ -6,12 +6,13 @@ use native.Mathlib.Numerals.{add-one}
 use native.Mathlib.Omega.{arith}
 use lib.ListN.{length}
 use lib.Seq.{sets}
-use Rattle.netlist.specs.Image.{sizesOf, kindAt, netAt, netsOf, sizeBytes}
-use Rattle.netlist.specs.Writing.{putNets}
-use Rattle.netlist.proofs.Nets.{netsLeft, nets-next}
-use Rattle.netlist.proofs.Checked.{Checked}
-use Rattle.netlist.proofs.Written.{puts-append, written}
-use Rattle.doubling.specs.Doubled.{groupLength, groupAt, groupsFrom, doubledSize, valueNet, doubledNets, pairedSizes, doubledImage}
+use Rattle.image.specs.Image.{sizesOf, kindAt, netAt, netsOf, sizeBytes}
+use Rattle.image.specs.Writing.{putNets}
+use Rattle.image.proofs.Nets.{netsLeft, nets-next}
+use Rattle.image.proofs.Written.{puts-append, written}
+use Rattle.checking.proofs.Checked.{Checked}
+use Rattle.groups.specs.Groups.{groupLength}
+use Rattle.doubling.specs.Doubled.{groupAt, groupsFrom, doubledSize, valueNet, doubledNets, pairedSizes, doubledImage}
 use Rattle.doubling.proofs.Positions.{group-length, doubled-length, value-up}
 use Rattle.doubling.proofs.Sums.{next-start}
 

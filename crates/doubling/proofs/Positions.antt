@@ -11,14 +11,16 @@ use native.Mathlib.Numerals.{add-one}
 use lib.Dec.{T, eqb, eqb→eq, leb, leb→le}
 use lib.ListN.{length, getD, take, drop, length-append, take-append-drop, List·getD-append}
 use lib.Seq.{take-all, take-suc, drop-cons, drop-at, length-take-le, getD-drop}
-use Rattle.netlist.specs.declared.image.Net.{Net}
-use Rattle.netlist.specs.Image.{net}
-use Rattle.netlist.proofs.Pairs.{pairs-append, pairs-getD}
 use Rattle.gates.proofs.Laws.{and-T}
 use Rattle.gates.proofs.Entries.{entry}
-use Rattle.netlist.proofs.Checked.{kind-most, Passes, is-const, is-input, is-reg, is-not, is-and, is-or, is-xor, is-mux, is-out, AllPass, nil, cons}
-use Rattle.netlist.proofs.Encoding.{nothing}
-use Rattle.doubling.specs.Doubled.{groupLengths, groupLength, doubledSize, valueNet, markNet, groupOf, groupAt, groupsFrom, doubledNets}
+use Rattle.image.specs.declared.image.Net.{Net}
+use Rattle.image.specs.Image.{net}
+use Rattle.image.proofs.Pairs.{pairs-append, pairs-getD}
+use Rattle.image.proofs.Encoding.{nothing}
+use Rattle.net_checking.proofs.Passes.{kind-most, Passes, is-const, is-input, is-reg, is-not, is-and, is-or, is-xor, is-mux, is-out}
+use Rattle.checking.proofs.Checked.{AllPass, nil, cons}
+use Rattle.groups.specs.Groups.{groupLengths, groupLength, groupOf}
+use Rattle.doubling.specs.Doubled.{doubledSize, valueNet, markNet, groupAt, groupsFrom, doubledNets}
 
 pub below-or : (j i : ℕ) → j < suc i → (j < i) ⊎ (j ≡ i)
 below-or j i h = elim (decLt j i) [ yes k ↦ inl k | no k ↦ inr (omega arith) ]

@@ -2,31 +2,32 @@
 use Prim.Native.Nat.{ℕ, zero, suc, _+_, _*_, _-_, _/_, _%_, _≤_, _<_}
 use mathlib.Core.Path.{_≡_, refl, ap, ap₂, sym, _∙_, subst}
 use mathlib.Core.List.{List, [], _∷_, _++_, map, append-assoc, Forall₂, Forall₂·nil, Forall₂·cons}
-use mathlib.Core.Bool.{Bool, true, false, cond}
 use mathlib.Core.Logic.{inl, inr}
 use native.Mathlib.Omega.{arith}
 use native.Mathlib.Numerals.{add-one}
 use native.Mathlib.Nat.{add-zero}
-use lib.Dec.{eqb, lit≤}
+use lib.Dec.{lit≤}
 use lib.ListN.{length, getD, take, drop, length-append, List·getD-append}
 use lib.Seq.{getD-append-add, getD-append-seam, drop-drop}
 use Rattle.gates.specs.Rules.{gateByte}
 use Rattle.gates.proofs.Laws.{Code}
-use Rattle.netlist.specs.declared.image.Net.{Net}
-use Rattle.netlist.specs.Image.{net}
-use Rattle.netlist.proofs.Pairs.{pairs-append, pairs-getD, pairs-drop}
-use Rattle.netlist.proofs.Refusals.{Codes}
-use Rattle.netlist.proofs.Checked.{Passes, is-const, is-input, is-reg, is-not, is-and, is-or, is-xor, is-mux, is-out, AllPass, nil, cons}
-use Rattle.tracker.specs.Cycle.{Walk, pinByte, netByte, past, walk, bytesOf, outputsFrom, registers, clocked, Cycle, cycleOf}
-use Rattle.tracker.specs.Calls.{start, starts}
-use Rattle.tracker.proofs.Walks.{walk-append}
-use Rattle.tracker.proofs.Selections.{Selection, outputs-selected, registers-selected, selection-append}
-use Rattle.doubling.specs.Doubled.{groupLength, groupLengths, doubledSize, valueNet, markNet, groupOf, groupAt, groupsFrom, doubledNets, split}
+use Rattle.image.specs.declared.image.Net.{Net}
+use Rattle.image.specs.Image.{net}
+use Rattle.image.proofs.Pairs.{pairs-append, pairs-getD, pairs-drop}
+use Rattle.refusals.proofs.Refusals.{Codes}
+use Rattle.net_checking.proofs.Passes.{Passes, is-const, is-input, is-reg, is-not, is-and, is-or, is-xor, is-mux, is-out}
+use Rattle.checking.proofs.Checked.{AllPass, nil, cons}
+use Rattle.cycle.specs.Cycle.{Walk, pinByte, netByte, past, walk, bytesOf, outputsFrom, registers, clocked, Cycle, cycleOf}
+use Rattle.cycle.specs.Calls.{start, starts}
+use Rattle.cycle.proofs.Walks.{walk-append}
+use Rattle.cycle.proofs.Selections.{Selection, outputs-selected, registers-selected, selection-append}
+use Rattle.groups.specs.Groups.{groupLength, groupLengths, groupOf, split}
+use Rattle.groups.proofs.Groups.{at, past-gate, walked-all, comes-length, Splits, byte-splits, const-splits, Bits, Group, not-group, and-group, or-group, xor-group, mux-group, out-group, reg-starts}
+use Rattle.doubling.specs.Doubled.{doubledSize, valueNet, markNet, groupAt, groupsFrom, doubledNets}
 use Rattle.doubling.proofs.Positions.{below-or, Laid, end, next, laid, group-length, value-below, mark-below, mark-second}
-use Rattle.doubling.proofs.Groups.{at, past-gate, walked-all, comes-length, Splits, byte-splits, const-splits, Bits, Group, not-group, and-group, or-group, xor-group, mux-group, out-group}
 
 -- SPLIT BYTES
-split-append : (xs ys : List ℕ) → split (xs ++ ys) ≡ split xs ++ split ys
+pub split-append : (xs ys : List ℕ) → split (xs ++ ys) ≡ split xs ++ split ys
 unfolding split
 split-append [] ys = refl
 split-append (x ∷ xs) ys = rw (split-append xs ys)
@@ -249,14 +250,10 @@ module _ (f f′ : Net → ℕ) {n : ℕ} (xs : List Net)
   registers-split : AllPass n 0 xs → n ≡ length xs → registers f′ (doubledNets xs) ≡ split (registers f xs)
   registers-split ps e = doubled-split (registers-selected f) (registers-selected f′) ps e (λ i y h p m. group-registers p)
 
--- a start is a plain value, and the mark register's start is 0
+-- a start is a plain value, and the mark register's start is its mark
 start-splits : (b : ℕ) → (start b ≡ start b % 2) × (start 0 ≡ start b / 2)
-unfolding start
-start-splits b = plain (eqb b 1)
-  where
-    plain : (c : Bool) → (cond c 1 0 ≡ cond c 1 0 % 2) × (0 ≡ cond c 1 0 / 2)
-    plain true = (refl, refl)
-    plain false = (refl, refl)
+unfolding starts registers split
+start-splits b = let h = reg-starts 0 0 b in (cc, cc)
 
 pub starts-split : {xs : List Net} {n : ℕ} → AllPass n 0 xs → n ≡ length xs → starts (doubledNets xs) ≡ split (starts xs)
 unfolding starts

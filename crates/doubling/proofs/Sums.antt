@@ -8,13 +8,15 @@ use native.Mathlib.Omega.{arith}
 use lib.Dec.{lit≤}
 use lib.ListN.{length, getD, set, replicate}
 use lib.Seq.{getD-set-same, getD-set-other}
-use Rattle.netlist.specs.declared.image.Net.{Net}
-use Rattle.netlist.specs.Image.{sizesOf, kindAt, netAt, netsOf}
-use Rattle.netlist.proofs.Nets.{net-in}
-use Rattle.netlist.proofs.Checked.{Passes, is-const, is-input, is-reg, is-not, is-and, is-or, is-xor, is-mux, is-out, AllPass, nil, cons, Checked, length-nets}
-use Rattle.netlist.proofs.Encoding.{nothing}
-use Rattle.doubling.specs.Doubled.{groupLengths, groupLength, doubledSize, valueNet, markNet, groupBy, groupOf, groupAt}
-use Rattle.doubling.specs.Passes.{Starts}
+use Rattle.image.specs.declared.image.Net.{Net}
+use Rattle.image.specs.Image.{sizesOf, kindAt, netAt, netsOf}
+use Rattle.image.proofs.Nets.{net-in, length-nets}
+use Rattle.image.proofs.Encoding.{nothing}
+use Rattle.net_checking.proofs.Passes.{Passes, is-const, is-input, is-reg, is-not, is-and, is-or, is-xor, is-mux, is-out}
+use Rattle.checking.proofs.Checked.{AllPass, nil, cons, Checked}
+use Rattle.groups.specs.Groups.{groupLengths, groupLength, groupBy, groupOf}
+use Rattle.doubling.specs.Doubled.{doubledSize, valueNet, markNet, groupAt}
+use Rattle.doubling.specs.Starts.{Starts}
 use Rattle.doubling.proofs.Positions.{below-or, two-to-eight, two-or-more, value-next, value-up}
 
 -- THE LARGEST SIZE

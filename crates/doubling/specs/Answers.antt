@@ -1,8 +1,8 @@
 -- The answer of the code, read in document 01's terms, and beside it the lent buffer that the call leaves.
 use Prim.Native.Nat.{ℕ}
 use mathlib.Core.List.{List}
-use Rattle.netlist.specs.declared.answer.Outcome.{Outcome}
-use Rattle.netlist.specs.Check.{refusalIn}
+use Rattle.refusals.specs.declared.answer.Outcome.{Outcome}
+use Rattle.refusals.specs.Refusals.{refusalIn}
 use Rattle.doubling.specs.Doubled.{Doubling}
 
 abbrev pub doubled : Outcome → (buffer : List ℕ) → Doubling

@@ -1,16 +1,16 @@
 // The call that doubles an image into a lent buffer.
 use crate::lengths::starts_of;
 use crate::writing::write_image;
-use netlist::Outcome;
-use netlist::check;
-use netlist::refused;
-use netlist::sizes_of;
+use checking::check;
+use image::sizes_of;
+use refusals::Outcome;
+use refusals::refused;
 ghost use mathlib.Core.Path.{_≡_};
 ghost use mathlib.Core.Bool.{not};
 ghost use Prim.Native.Nat.{_+_, _*_};
 ghost use lib.Dec.{eqb, ltb};
 ghost use lib.ListN.{length, replicate};
-ghost use Rattle.netlist.specs.Check.{refuse, _then_, refusalIn};
+ghost use Rattle.refusals.specs.Refusals.{refuse, _then_, refusalIn};
 ghost use Rattle.doubling.specs.Doubled.{doubleOf};
 ghost use Rattle.doubling.specs.Answers.{doubled};
 

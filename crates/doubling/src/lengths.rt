@@ -1,11 +1,11 @@
 // Where the groups of the doubled netlist begin.
-use netlist::kind_of;
+use image::kind_of;
 ghost use mathlib.Core.Path.{_≡_};
 ghost use mathlib.Core.Option.{none};
-ghost use Rattle.netlist.specs.Image.{sizesOf, netsOf};
-ghost use Rattle.netlist.specs.Check.{checkRefusal};
-ghost use Rattle.doubling.specs.Doubled.{groupLengths};
-ghost use Rattle.doubling.specs.Passes.{Starts};
+ghost use Rattle.image.specs.Image.{sizesOf, netsOf};
+ghost use Rattle.checking.specs.Check.{checkRefusal};
+ghost use Rattle.groups.specs.Groups.{groupLengths};
+ghost use Rattle.doubling.specs.Starts.{Starts};
 
 // The group lengths for kinds 0 to 8.
 const GROUP_LENGTHS: [u16; 9] = [2, 2, 2, 2, 6, 8, 2, 7, 2];

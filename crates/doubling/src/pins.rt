@@ -1,14 +1,9 @@
 // The two nets that a pin becomes.
+use large_groups::Pair;
 ghost use mathlib.Core.Path.{_≡_};
 ghost use Prim.Native.Nat.{_+_, _-_, _<_};
 ghost use lib.ListN.{getD};
-ghost use Rattle.doubling.specs.Passes.{PairFits};
-
-// The value net and the mark net of a net: the first and the last of its group.
-pub struct Pair {
-    pub value: usize,
-    pub mark: usize,
-}
+ghost use Rattle.large_groups.specs.Room.{PairFits};
 
 fn wide(x: u16) -> usize
     ensures { λ r. ⌜ (r ≡ x) × (r < 65536) ⌝ }

@@ -1,18 +1,20 @@
 // Writing the doubled netlist: its sizes, and then group after group in one pass over the nets.
-use crate::group::put_group;
 use crate::pins::pair_of;
-use netlist::Sizes;
-use netlist::net_of;
-use netlist::put_sizes;
+use all_groups::put_group;
+use image::Sizes;
+use image::net_of;
+use image::put_sizes;
 ghost use mathlib.Core.Path.{_≡_};
 ghost use mathlib.Core.Option.{none};
 ghost use Prim.Native.Nat.{_+_, _*_, _<_, _≤_};
 ghost use lib.ListN.{length};
-ghost use Rattle.netlist.specs.Image.{sizesOf, kindAt, netAt, netsOf};
-ghost use Rattle.netlist.specs.Check.{checkRefusal};
-ghost use Rattle.netlist.specs.Writing.{putNets};
-ghost use Rattle.doubling.specs.Doubled.{groupLength, groupAt, doubledSize, valueNet, doubledNets, doubledImage};
-ghost use Rattle.doubling.specs.Passes.{Starts, Room};
+ghost use Rattle.image.specs.Image.{sizesOf, kindAt, netAt, netsOf};
+ghost use Rattle.image.specs.Writing.{putNets};
+ghost use Rattle.checking.specs.Check.{checkRefusal};
+ghost use Rattle.groups.specs.Groups.{groupLength};
+ghost use Rattle.large_groups.specs.Room.{Room};
+ghost use Rattle.doubling.specs.Doubled.{groupAt, doubledSize, valueNet, doubledNets, doubledImage};
+ghost use Rattle.doubling.specs.Starts.{Starts};
 
 // The group of net i.
 fn put_group_at(d: &mut [u8], size: usize, image: &[u8], starts: &[u16; 8193], i: usize)

@@ -1,4 +1,4 @@
--- Each promise that no other proof of this crate uses, used by its parts: so one that is left out of the record, or loses one of these parts, is missed here.
+-- Each promise that no proof of `codes` uses, used by its parts: so one that is left out of the record, or loses one of these parts, is missed here.
 use Prim.Native.Nat.{ℕ, _+_, _*_, _/_, _%_, _≤_, _<_}
 use mathlib.Core.Path.{_≡_}
 use mathlib.Core.List.{List, [], _∷_, Forall₂, Forall₂·nil}
@@ -10,13 +10,14 @@ use Rattle.gates.specs.Kinds.{CONST, INPUT, REG, NOT, AND, OR, XOR, MUX, OUT}
 use Rattle.gates.specs.Rules.{mark, notByte, andByte, orByte, xorByte, muxByte, gateByte}
 use Rattle.gates.specs.Relations.{AgreeByte, Agree, BelowByte, equal, zero-marked}
 use Rattle.gates.specs.Meaning.{Changed}
-use Rattle.netlist.specs.declared.image.Net.{Net}
-use Rattle.netlist.specs.Image.{sizesOf, net, netsOf, count}
-use Rattle.netlist.specs.declared.answer.Refusal.{Refusal}
-use Rattle.netlist.specs.Check.{checkRefusal}
-use Rattle.tracker.specs.Cycle.{Verdict, clear, flow, outputsFrom, cycleOf, FirstFlow}
-use Rattle.tracker.specs.Calls.{done, powerUpRefusal, powerUpOf, Stepped, stepOf, stepRefusal, Ran, runOf, runRefusal}
-use Rattle.doubling.specs.Doubled.{groupLength, groupAt, doubledSize, valueNet, markNet, doubledNets, doubledImage, doubleRefusal, doubleOf, split}
+use Rattle.image.specs.declared.image.Net.{Net}
+use Rattle.image.specs.Image.{sizesOf, net, netsOf, count}
+use Rattle.refusals.specs.declared.answer.Refusal.{Refusal}
+use Rattle.checking.specs.Check.{checkRefusal}
+use Rattle.cycle.specs.Cycle.{Verdict, clear, flow, outputsFrom, cycleOf, FirstFlow}
+use Rattle.cycle.specs.Calls.{stateLength, done, powerUpRefusal, powerUpOf, Stepped, stepOf, stepRefusal, Ran, runOf, runRefusal}
+use Rattle.groups.specs.Groups.{groupLength, split}
+use Rattle.doubling.specs.Doubled.{groupAt, doubledSize, valueNet, markNet, doubledNets, doubledImage, doubleRefusal, doubleOf}
 use Rattle.claims.specs.Reading.{twoBytes}
 use Rattle.claims.specs.Accepted.{AcceptedImage}
 use Rattle.claims.specs.Examples.{counted, twoRows}
@@ -27,7 +28,7 @@ use Rattle.claims.specs.Verdicts.{MarkedOutput, Judged, lowest, First, first}
 use Rattle.claims.specs.History.{Call, step, run, accepted, CallResult, history, cyclesIn, TurnedBack, AllMade}
 use Rattle.claims.specs.Pairing.{Again, step-again, shown}
 use Rattle.claims.specs.TwoRun.{Matched, SameCycle, SameCall, turned-back, finished, SameCalls, SameShown}
-use Rattle.claims.specs.OneRun.{fromPowerUp, clearAfter, SameMarks, StaysClear, InTwo}
+use Rattle.claims.specs.InBytes.{fromPowerUp, clearAfter, SameMarks, StaysClear, InTwo}
 use Rattle.claims.proofs.Promised.{promised}
 
 -- TERMS
@@ -61,7 +62,7 @@ net-read : (s : List ℕ) (i : ℕ) → i < sizesOf s .nets
 net-read s i h = let r = promised .image-read s in (r .kind i h, r .a i h, r .b i h, r .c i h)
 
 -- ACCEPTED calls
-accepted-power-up : (s st : List ℕ) → AcceptedImage s → length st ≡ sizesOf s .registers → powerUpRefusal s st ≡ none
+accepted-power-up : (s st : List ℕ) → AcceptedImage s → length st ≡ stateLength (sizesOf s) → powerUpRefusal s st ≡ none
 accepted-power-up s st a l = promised .when-accepted .power-up s st .1 (a, l)
 
 accepted-double : (s buf : List ℕ) → AcceptedImage s → doubledSize (netsOf s) ≤ 8192 → length buf ≡ 8 + 7 * doubledSize (netsOf s) → doubleRefusal s buf ≡ none
@@ -107,17 +108,17 @@ two-rows : twoRows .outputs ≡ 2 ∷ 1 ∷ 0 ∷ 3 ∷ []
 two-rows = promised .examples .two-rows
 
 -- CYCLES of an accepted image
-module _ (s st : List ℕ) (h : checkRefusal s ≡ none) (l : length st ≡ sizesOf s .registers) where
+module _ (s st : List ℕ) (h : checkRefusal s ≡ none) (l : length st ≡ stateLength (sizesOf s)) where
   register-starts : (i : ℕ) → i < sizesOf s .nets → netOf s i .kind ≡ REG
       → (netOf s i .b ≡ 0 → Counted REG s i (powerUpOf s st .state) 0) × (netOf s i .b ≡ 1 → Counted REG s i (powerUpOf s st .state) 1)
       × (netOf s i .b ≡ 2 → Counted REG s i (powerUpOf s st .state) 0)
   register-starts i m k = let p = promised .power-up-starts s st h l in (p .start-0 i m k, p .start-1 i m k, p .none-given i m k)
 
-  powered-up : (powerUpOf s st .refusal ≡ none) × (length (powerUpOf s st .state) ≡ sizesOf s .registers)
+  powered-up : (powerUpOf s st .refusal ≡ none) × (length (powerUpOf s st .state) ≡ stateLength (sizesOf s))
   powered-up = let p = promised .power-up-starts s st h l in (p .done, p .size)
 
   sizes : (row : List ℕ) → length row ≡ sizesOf s .inputs
-      → let c = cycleOf (netsOf s) row st in (length (c .bytes) ≡ sizesOf s .nets) × (length (c .state) ≡ sizesOf s .registers)
+      → let c = cycleOf (netsOf s) row st in (length (c .bytes) ≡ sizesOf s .nets) × (length (c .state) ≡ stateLength (sizesOf s))
   sizes row m = let n = promised .net-bytes s row st h m l in (n .nets, n .registers)
 
   net-has : (row : List ℕ) → length row ≡ sizesOf s .inputs → (i : ℕ) → i < sizesOf s .nets
@@ -236,7 +237,7 @@ steps-same : (s st st′ row row′ nets nets′ : List ℕ) (v : Verdict) → S
     → stepOf s st row nets .answer ≡ done v → stepOf s st row nets .answer ≡ stepOf s st′ row′ nets′ .answer
 steps-same s st st′ row row′ nets nets′ v q p l h = promised .steps-agree s st st′ row row′ nets nets′ v q p l h .answer
 
-powered : (s a : List ℕ) → checkRefusal s ≡ none → length a ≡ sizesOf s .registers → powerUpOf s a .refusal ≡ none
+powered : (s a : List ℕ) → checkRefusal s ≡ none → length a ≡ stateLength (sizesOf s) → powerUpOf s a .refusal ≡ none
 powered s a h l = promised .demand3 s h [] [] Forall₂·nil .powered-up a l .0
 
 -- any two rows that agree may stand in the two lists, also with bytes above 3
@@ -252,7 +253,7 @@ any-states s cs ds h m = promised .demand3 s h cs ds m .calls
 -- the doubled half of demand 3
 doubled-lists : (s : List ℕ) → checkRefusal s ≡ none → doubledSize (netsOf s) ≤ 8192 → (buf : List ℕ) → length buf ≡ 8 + 7 * doubledSize (netsOf s)
     → let d = doubleOf s buf .buffer in
-    (a b a′ b′ : List ℕ) → length a ≡ sizesOf s .registers → length b ≡ sizesOf s .registers → length a′ ≡ sizesOf d .registers → length b′ ≡ sizesOf d .registers
+    (a b a′ b′ : List ℕ) → length a ≡ stateLength (sizesOf s) → length b ≡ stateLength (sizesOf s) → length a′ ≡ stateLength (sizesOf d) → length b′ ≡ stateLength (sizesOf d)
     → (cs ds cs′ ds′ : List Call) → Forall₂ Matched cs ds
     → Forall₂ (Again d) (accepted s (powerUpOf s a .state) cs) cs′ → Forall₂ (Again d) (accepted s (powerUpOf s b .state) ds) ds′
     → Forall₂ (SameShown s d) (cyclesIn (history d (powerUpOf d a′ .state) cs′)) (cyclesIn (history d (powerUpOf d b′ .state) ds′))

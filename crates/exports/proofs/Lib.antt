@@ -1,6 +1,2 @@
--- How large the numbers of answers are, and how they are read.
-pub mod Given
-pub mod Small
-pub mod Readings
-pub mod Says
+-- What the theorems say of the calls that are exported.
 pub mod Held

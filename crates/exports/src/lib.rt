@@ -1,21 +1,19 @@
 // The library for C and Rust: each call of the tracker under a plain name, with one number for its answer (include/tracker.h).
-mod codes;
-
 use codes::outcome_code;
 use codes::run_code;
 use codes::step_code;
 ghost use mathlib.Core.Path.{_≡_};
-ghost use Rattle.netlist.specs.Check.{checkRefusal};
-ghost use Rattle.tracker.specs.Calls.{powerUpOf, stepOf, runOf};
+ghost use Rattle.checking.specs.Check.{checkRefusal};
+ghost use Rattle.cycle.specs.Calls.{powerUpOf, stepOf, runOf};
 ghost use Rattle.doubling.specs.Doubled.{doubleOf};
-ghost use Rattle.exports.specs.Codes.{outcomeCode, verdictCode, firstFlowCode, answerCode};
+ghost use Rattle.codes.specs.Codes.{outcomeCode, verdictCode, firstFlowCode, answerCode};
 
 // Whether an image is accepted.
 #[no_mangle]
 pub extern "C" fn tracker_check(image: &[u8]) -> u64
     ensures { λ r. ⌜ r ≡ outcomeCode (checkRefusal (now (image .entry))) ⌝ }
 {
-    let o = netlist::check(image);
+    let o = checking::check(image);
     outcome_code(o)
 }
 

@@ -1,24 +1,23 @@
 -- The listing as one text: where it fits behind what is there, its lines stand one behind the other.
-use Prim.Native.Nat.{ℕ, _+_, _-_, _≤_, _<_}
+use Prim.Native.Nat.{ℕ, _+_, _≤_}
 use native.Mathlib.Omega.{arith}
 use mathlib.Core.Path.{_≡_, refl, ap, _∙_}
 use mathlib.Core.Bool.{Bool, true, false}
 use mathlib.Core.List.{List, [], _∷_, _++_}
-use mathlib.Core.Option.{some}
 use lib.Dec.{ltb}
 use lib.ListN.{length, length-append}
 use lib.Seq.{sets, length-sets}
-use Rattle.netlist.specs.Check.{refusal}
-use Rattle.netlist.specs.declared.answer.Refusal.{Refusal}
-use Rattle.tracker.specs.Cycle.{FirstFlow}
-use Rattle.tracker.specs.Calls.{Answer, done, refused, runOf}
+use Rattle.refusals.specs.Refusals.{refusal}
+use Rattle.refusals.specs.declared.answer.Refusal.{Refusal}
+use Rattle.cycle.specs.Cycle.{FirstFlow}
+use Rattle.cycle.specs.Calls.{Answer, done, refused, runOf}
+use Rattle.text.proofs.Putting.{sets-append}
 use Rattle.listing_text.specs.Lines.{cycleLine, endLine, refusedLine}
-use Rattle.listing_text.proofs.Putting.{sets-append}
-use Rattle.listing_rows.specs.Printed.{withCycle, withLast}
+use Rattle.listing_output.specs.Printed.{withCycle, withLast}
+use Rattle.listing_output.proofs.Printing.{next-behind}
 use Rattle.listing_rows.specs.Rows.{Listed, withAnswer, withRow, withShort, withRows, withEnd}
-use Rattle.listing.specs.Listing.{linesOf}
-use Rattle.listing_rows.proofs.Printing.{next-behind}
 use Rattle.listing_rows.proofs.Taking.{rows-closed, end-closed}
+use Rattle.listing.specs.Listing.{linesOf}
 
 -- a listing that goes on
 abbrev goingOn : (st outs text : List ℕ) (used n : ℕ) → Listed

@@ -1,6 +1,6 @@
--- Laws of the turns in which rows are read and taken, and of the whole listing, also as one text; and pages of it.
-pub mod Keeping
-pub mod Reading
+-- Laws of buffers of zeros, of all turns together, and of the whole listing, also as one text; and pages of it.
+pub mod Buffers
+pub mod Turns
 pub mod AsText
 pub mod Listings
 pub mod Pages

@@ -1,6 +1,5 @@
 -- The three ways in which a listing goes.
-use Prim.Native.Nat.{ℕ, _*_, _/_, _≤_, _<_}
-use native.Mathlib.Nat.{one-mul, mul-le-mul, le-div-iff-mul-le}
+use Prim.Native.Nat.{ℕ, _≤_}
 use native.Mathlib.Omega.{arith}
 use mathlib.Core.Path.{_≡_, refl, sym, ap, _∙_}
 use mathlib.Core.Bool.{true}
@@ -8,20 +7,20 @@ use mathlib.Core.List.{List, []}
 use mathlib.Core.Option.{none, some}
 use lib.ListN.{length, replicate, length-replicate}
 use borrow.Author.Tests.{eqb-true, eq-eqb, ne-eqb}
-use Rattle.netlist.specs.declared.image.Sizes.{Sizes}
-use Rattle.netlist.specs.Image.{sizesOf, netsOf}
-use Rattle.netlist.specs.declared.answer.Refusal.{Refusal}
-use Rattle.netlist.specs.Check.{checkRefusal}
-use Rattle.netlist.proofs.Checked.{check-none}
-use Rattle.tracker.specs.Calls.{PoweredUp, powerUpOf, starts}
-use Rattle.tracker.proofs.Calls.{powered-up}
+use Rattle.image.specs.declared.image.Sizes.{Sizes}
+use Rattle.image.specs.Image.{sizesOf, netsOf}
+use Rattle.refusals.specs.declared.answer.Refusal.{Refusal}
+use Rattle.checking.specs.Check.{checkRefusal}
+use Rattle.checking.proofs.Checked.{check-none}
+use Rattle.cycle.specs.Calls.{PoweredUp, powerUpOf, starts}
+use Rattle.cycle.proofs.Calls.{powered-up}
 use Rattle.listing_text.specs.Lines.{endLine, refusedLine}
-use Rattle.listing_rows.specs.declared.output.Progress.{Progress}
-use Rattle.listing_rows.specs.Printed.{Printed, printed, blank, withLast, Room}
+use Rattle.listing_output.specs.declared.output.Progress.{Progress}
+use Rattle.listing_output.specs.Printed.{Printed, printed, blank, withLast, Room}
 use Rattle.listing_rows.specs.Rows.{rowsOf, withRows, withEnd}
 use Rattle.listing_rows.specs.Taken.{Held, Holds}
-use Rattle.listing.specs.Reading.{Lists}
-use Rattle.listing.specs.Listing.{poweredUp, readsNone, listingOf, linesOf, listingText, Listing}
+use Rattle.listing_turns.specs.Reading.{Lists}
+use Rattle.listing.specs.Listing.{atPowerUp, readsNone, listingOf, linesOf, listingText, Listing}
 use Rattle.listing.proofs.AsText.{last-there, lines-text}
 
 -- nothing is printed yet
@@ -31,13 +30,6 @@ blank-is text p n u o = cc
 -- the text has room then
 pub blank-room : (text : List ℕ) (p : Progress) → p .used ≡ 0 → p .written ≡ 0 → 8240 ≤ length text → Room text p
 blank-room text p u w h = record { written = omega (arith, u, w); used = omega (arith, u); longest = h }
-
--- a row has room in a buffer of some whole rows
-pub row-room : (n i : ℕ) → 0 < i → i ≤ n → i ≤ n / i * i
-row-room n i pos h =
-    let one : 1 ≤ n / i = le-div-iff-mul-le pos .1 (omega (arith, one-mul i)) in
-    let m : 1 * i ≤ n / i * i = mul-le-mul one (omega arith) in
-    omega (arith, one-mul i)
 
 -- end, with no cycle
 pub end-blank : (text : List ℕ) (p : Progress) → p .cycles ≡ 0 → p .used ≡ 0 → p .open ≡ true → withLast (endLine (p .cycles)) (printed text p) ≡ withLast (endLine 0) (blank text)
@@ -80,10 +72,10 @@ module _ (s text : List ℕ) where
     unfolding listingOf listingText
     listing-rows {z} {after} st e i l lists =
         let up : powerUpOf s st .state ≡ starts (netsOf s) = ap (λ (p : PoweredUp). p .state) (powered-up s st (check-none s .0 accepted) (rw e at l)) in
-        let begin : Holds s (record { state = powerUpOf s st .state; printed = blank text }) (poweredUp s text) = record { state = sym up; printed = refl; outputs = length-replicate (sizesOf s .outputs) 0 } in
+        let begin : Holds s (record { state = powerUpOf s st .state; printed = blank text }) (atPowerUp s text) = record { state = sym up; printed = refl; outputs = length-replicate (sizesOf s .outputs) 0 } in
         let j : sizesOf s .inputs ≡ 0 → ⊥ = rw e at i in
         let rows = rowsOf (sizesOf s .inputs) (lists .input) in
-        let f : after .printed ≡ withEnd (withRows s (sizesOf s .inputs) rows (poweredUp s text)) .printed = rw e at (sym (lists .ended .leads (poweredUp s text) begin .printed)) in
+        let f : after .printed ≡ withEnd (withRows s (sizesOf s .inputs) rows (atPowerUp s text)) .printed = rw e at (sym (lists .ended .leads (atPowerUp s text) begin .printed)) in
         let t : listingText s (lists .input) ≡ linesOf s (sizesOf s .inputs) 0 (starts (netsOf s)) (replicate (sizesOf s .outputs) 0) rows =
         rw (accepted, ne-eqb (sizesOf s .inputs) 0 j, listingText) in
         record {

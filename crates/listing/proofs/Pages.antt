@@ -1,12 +1,15 @@
 -- The pages are what is listed, by computation.
 use mathlib.Core.Path.{refl}
 use Rattle.gates.specs.Rules.{value, mark, byte, andMark, notByte, andByte, gateByte}
-use Rattle.netlist.specs.Image.{sizesOf, netAt, netsFrom, netsOf, count}
-use Rattle.netlist.specs.Examples.{counter, crossed}
-use Rattle.netlist.specs.Check.{netRefusal, netsRefusal, checkRefusal, badByte, badLength}
-use Rattle.tracker.specs.Cycle.{pinByte, netByte, past, walk, bytesOf, verdictFrom, outputsFrom, registers, clocked, cycleOf, cyclesOf, outputsOf, stateAfter, firstOf, firstFlow}
-use Rattle.tracker.specs.Calls.{start, starts, asRun, runRefusal, runOf}
-use Rattle.listing_text.specs.Lines.{digitsUpTo, decimal, outputDigits, cycleLine, endLine, refusedLine}
+use Rattle.image.specs.Image.{sizesOf, netAt, netsFrom, netsOf, count}
+use Rattle.image.specs.Examples.{counter, crossed}
+use Rattle.refusals.specs.Refusals.{badByte, badLength}
+use Rattle.net_checking.specs.NetCheck.{netRefusal}
+use Rattle.checking.specs.Check.{netsRefusal, checkRefusal}
+use Rattle.cycle.specs.Cycle.{pinByte, netByte, past, walk, bytesOf, verdictFrom, outputsFrom, registers, clocked, cycleOf, cyclesOf, outputsOf, stateAfter, firstOf, firstFlow}
+use Rattle.cycle.specs.Calls.{start, starts, asRun, runRefusal, runOf}
+use Rattle.text.specs.Decimal.{digitsUpTo, decimal}
+use Rattle.listing_text.specs.Lines.{outputDigits, cycleLine, endLine, refusedLine}
 use Rattle.listing_rows.specs.Rows.{rowsUpTo}
 use Rattle.listing.specs.Listing.{linesOf, listingText}
 use Rattle.listing.specs.Pages.{badNet, oneInput, oneConst, delay, Pages}

@@ -1,4 +1,3 @@
--- The whole listing, pages of it as text, and terms of the contracts between the functions of the program.
+-- The whole listing, and pages of it as text.
 pub mod Listing
 pub mod Pages
-pub mod Reading

@@ -7,16 +7,17 @@ use mathlib.Core.Bool.{Bool, true, cond}
 use lib.Dec.{eqb, ltb}
 use lib.ListN.{length, replicate}
 use lib.Seq.{sets}
-use Rattle.netlist.specs.Image.{sizesOf, netsOf}
-use Rattle.netlist.specs.Check.{checkRefusal, refusal}
-use Rattle.tracker.specs.Calls.{done, refused, starts, runOf}
+use Rattle.image.specs.Image.{sizesOf, netsOf}
+use Rattle.refusals.specs.Refusals.{refusal}
+use Rattle.checking.specs.Check.{checkRefusal}
+use Rattle.cycle.specs.Calls.{done, refused, starts, runOf}
 use Rattle.listing_text.specs.Lines.{cycleLine, endLine, refusedLine}
-use Rattle.listing_rows.specs.Printed.{Printed, blank, withLast}
+use Rattle.listing_output.specs.Printed.{Printed, blank, withLast}
 use Rattle.listing_rows.specs.Rows.{Listed, rowsOf, withRows, withEnd}
 
 -- where the rows begin: the state at power-up, a buffer for O output bytes, and nothing printed
-abbrev pub poweredUp : (s text : List ℕ) → Listed
-poweredUp s text = record { state = starts (netsOf s); outputs = replicate (sizesOf s .outputs) 0; printed = blank text }
+abbrev pub atPowerUp : (s text : List ℕ) → Listed
+atPowerUp s text = record { state = starts (netsOf s); outputs = replicate (sizesOf s .outputs) 0; printed = blank text }
 
 -- whether no row is read: the image is refused, or I is 0
 unfoldable pub readsNone : (s : List ℕ) → Bool
@@ -33,7 +34,7 @@ listingOf s input text =
       | some r ↦ withLast (refusedLine r) (blank text)
       | none ↦ cond (eqb (sizesOf s .inputs) 0)
           (withLast (endLine 0) (blank text))
-          (withEnd (withRows s (sizesOf s .inputs) (rowsOf (sizesOf s .inputs) input) (poweredUp s text)) .printed)
+          (withEnd (withRows s (sizesOf s .inputs) (rowsOf (sizesOf s .inputs) input) (atPowerUp s text)) .printed)
     ]
 
 -- the same as one text. The lines of rows of i bytes each, one step each, from a state and a buffer of output bytes, the first being cycle n: a line for each, and end with the count of cycles behind them; or a refusal as the last line

@@ -2,8 +2,8 @@
 use Prim.Native.Nat.{ℕ}
 use mathlib.Core.Path.{_≡_}
 use mathlib.Core.List.{List, [], _∷_, _++_}
-use Rattle.netlist.specs.Examples.{counter, crossed}
-use Rattle.listing_text.specs.Ascii.{ascii}
+use Rattle.image.specs.Examples.{counter, crossed}
+use Rattle.text.specs.Ascii.{ascii}
 use Rattle.listing.specs.Listing.{listingText}
 
 -- 0 CONST 0; 1 CONST 0; 2 CONST 0; 3 NOT 3, whose pin is not below its net

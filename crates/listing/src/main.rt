@@ -1,6 +1,5 @@
 // The listing program: it reads net.bin, powers up, takes a row of I bytes a cycle from standard input, and prints a line for each cycle.
-mod input;
-mod turns;
+mod listing;
 
 use input::MOST_IMAGE;
 use input::read_image;
@@ -9,5 +8,5 @@ fn main() {
     let mut space = [0u8; MOST_IMAGE];
     let n = read_image(&mut space);
     let mut text = [0u8; 65536];
-    turns::list(&space[..n], &mut text);
+    listing::list(&space[..n], &mut text);
 }

@@ -3,26 +3,27 @@ use Prim.Native.Nat.{ℕ, _+_, _-_, _*_, _/_, _≤_, _<_}
 use native.Mathlib.Nat.{zero-add, add-mul, one-mul, mul-le-mul, div-mul-le-self, lt-div-mul-add, div-lt-iff-lt-mul}
 use native.Mathlib.Omega.{arith}
 use mathlib.Core.Path.{_≡_, refl, sym, ap, _∙_}
-use mathlib.Core.Bool.{true, false}
+use mathlib.Core.Bool.{true}
 use mathlib.Core.List.{List, _++_}
 use mathlib.Core.Option.{some}
-use lib.Dec.{lit≤}
+use lib.Dec.{lit≤, ltb}
 use lib.ListN.{length, getD, take, drop, take-append-drop, length-drop}
 use lib.Seq.{length-take-le, take-take, take-add, drop-at, getD-take, getD-drop}
 use Rattle.gates.specs.Kinds.{OUT}
-use Rattle.netlist.specs.Image.{sizesOf, netsOf}
-use Rattle.netlist.specs.declared.answer.Refusal.{Refusal}
-use Rattle.netlist.specs.Check.{refusal, badByte}
-use Rattle.netlist.proofs.Pairs.{pairs-take, pairs-drop}
-use Rattle.netlist.proofs.Refusals.{Codes}
-use Rattle.netlist.proofs.Checked.{Checked}
-use Rattle.tracker.specs.Calls.{refused, asRun, runOf}
-use Rattle.tracker.specs.Lists.{placesFrom}
-use Rattle.tracker.proofs.Calls.{IsState, run-state}
+use Rattle.image.specs.Image.{sizesOf, netsOf}
+use Rattle.image.proofs.Pairs.{pairs-take, pairs-drop}
+use Rattle.refusals.specs.declared.answer.Refusal.{Refusal}
+use Rattle.refusals.specs.Refusals.{refusal, badByte}
+use Rattle.refusals.proofs.Refusals.{Codes}
+use Rattle.checking.proofs.Checked.{Checked}
+use Rattle.cycle.specs.Calls.{asRun, runOf}
+use Rattle.cycle.proofs.Calls.{IsState, run-state}
+use Rattle.lists.specs.Lists.{placesFrom}
 use Rattle.listing_text.specs.Lines.{refusedLine}
-use Rattle.listing_rows.specs.Printed.{Printed, withLast}
-use Rattle.listing_rows.specs.Rows.{Listed, withAnswer, withRow, rowsOf, withRows}
-use Rattle.listing_rows.specs.Taken.{withLines, Held, Holds, Taken}
+use Rattle.listing_output.specs.Printed.{Printed, withLast}
+use Rattle.listing_cycles.specs.ByOutputs.{withLines}
+use Rattle.listing_rows.specs.Rows.{Listed, withAnswer, withRow, rowsOf}
+use Rattle.listing_rows.specs.Taken.{Held, Taken}
 use Rattle.listing_rows.proofs.Taking.{rows-append, rows-closed, rows-whole, taken-then}
 use Rattle.listing_rows.proofs.Running.{cyclesOn, cycles-go-on, lines-are, rows-cycles}
 use Rattle.listing_rows.proofs.Answering.{first-bad, bad-at, Lent, good-ready, run-good, run-bad}
@@ -60,7 +61,7 @@ unfolding withRow withAnswer withLast
 bad-row {s} {st} {i} image inputs state rows at p within long codes bad going =
     let row = take i rows in
     let size : length row ≡ i = length-take-le i rows long in
-    let draws : badByte 13 0 row ≡ some (refusal 13 at) =
+    let draws : badByte (ltb 3) 13 0 row ≡ some (refusal 13 at) =
     rw (zero-add at) at (bad-at 13 0 row at (omega arith) (rw (take-take at i rows (omega arith)) codes) (rw (getD-take i rows at 0 within) bad)) in
     record {
       leads = λ l h.
@@ -74,7 +75,7 @@ bad-row {s} {st} {i} image inputs state rows at p within long codes bad going =
     }
 
 -- ROWS OF WHICH A BYTE IS BAD: the rows before its row are good
-module _ {s : List ℕ} {i : ℕ} {st : List ℕ} {k : ℕ} {rows outputs : List ℕ} (g : Lent s i st k rows outputs) {r : Refusal} (bad : badByte 13 0 rows ≡ some r) (pos : 0 < i) where
+module _ {s : List ℕ} {i : ℕ} {st : List ℕ} {k : ℕ} {rows outputs : List ℕ} (g : Lent s i st k rows outputs) {r : Refusal} (bad : badByte (ltb 3) 13 0 rows ≡ some r) (pos : 0 < i) where
   abbrev good : ℕ
   good = r .place / i
 

@@ -1,7 +1,4 @@
--- Laws of the lines that are printed, of verdicts and lines by output bytes, and of the rows that are taken.
-pub mod Printing
-pub mod Verdicts
-pub mod Lines
+-- Laws of the rows that are taken, one by one, by a run, and by one run after another.
 pub mod Taking
 pub mod Running
 pub mod Answering

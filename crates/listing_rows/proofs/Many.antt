@@ -1,31 +1,32 @@
 -- What one run of at most 4,096 rows takes, and what it leaves, as the code has it.
-use Prim.Native.Nat.{ℕ, _+_, _-_, _*_, _/_, _≤_, _<_}
+use Prim.Native.Nat.{ℕ, _-_, _*_, _/_, _≤_, _<_}
 use native.Mathlib.Nat.{mul-le-mul}
 use native.Mathlib.Omega.{arith}
-use mathlib.Core.Path.{_≡_, refl, sym, ap, _∙_}
+use mathlib.Core.Path.{_≡_, refl, ap, _∙_}
 use mathlib.Core.Bool.{true}
 use mathlib.Core.List.{List}
 use mathlib.Core.Option.{some}
+use lib.Dec.{ltb}
 use lib.ListN.{length, take}
 use lib.Seq.{length-take-le}
-use Rattle.netlist.specs.Image.{sizesOf}
-use Rattle.netlist.specs.declared.answer.Refusal.{Refusal}
-use Rattle.netlist.specs.Check.{refusal, badByte}
-use Rattle.netlist.proofs.Refusals.{byte-none}
-use Rattle.netlist.proofs.Checked.{check-none}
-use Rattle.tracker.specs.declared.answer.FirstFlow as code
-use Rattle.tracker.specs.declared.answer.RunAnswer.{RunAnswer}
-use Rattle.tracker.specs.declared.answer.RunAnswer.the-variants.{Done, Refused}
-use Rattle.tracker.specs.Answers.{ran}
-use Rattle.tracker.specs.Calls.{Ran, runOf}
-use Rattle.tracker.proofs.Calls.{IsState}
+use Rattle.refusals.specs.declared.answer.Refusal.{Refusal}
+use Rattle.refusals.specs.Refusals.{refusal, badByte}
+use Rattle.refusals.proofs.Refusals.{byte-none}
+use Rattle.checking.proofs.Checked.{check-none}
+use Rattle.cycle.specs.declared.answer.FirstFlow as code
+use Rattle.cycle.specs.declared.answer.RunAnswer.{RunAnswer}
+use Rattle.cycle.specs.declared.answer.RunAnswer.the-variants.{Done, Refused}
+use Rattle.cycle.specs.Answers.{ran}
+use Rattle.cycle.specs.Calls.{Ran, runOf}
+use Rattle.cycle.proofs.Calls.{IsState}
 use Rattle.listing_text.specs.Lines.{refusedLine}
-use Rattle.listing_rows.specs.declared.output.Progress.{Progress}
-use Rattle.listing_rows.specs.Printed.{Printed, printed, withLast, Room}
+use Rattle.listing_output.specs.declared.output.Progress.{Progress}
+use Rattle.listing_output.specs.Printed.{Printed, printed, withLast, Grown}
+use Rattle.listing_output.proofs.Printing.{last-leaves}
+use Rattle.listing_cycles.specs.ByOutputs.{withLines}
+use Rattle.listing_cycles.proofs.Lines.{outs-length}
 use Rattle.listing_rows.specs.Rows.{rowsOf}
-use Rattle.listing_rows.specs.Taken.{AcceptedState, withLines, held, Taken, Grown, Asks, Leaves}
-use Rattle.listing_rows.proofs.Printing.{last-leaves}
-use Rattle.listing_rows.proofs.Lines.{outs-length}
+use Rattle.listing_rows.specs.Taken.{AcceptedState, held, Taken, Asks, Leaves}
 use Rattle.listing_rows.proofs.Answering.{Lent, done-good, run-bad, refused-bad}
 use Rattle.listing_rows.proofs.ByRuns.{taken-from, taken-to, good-open, good-state, good-taken, good-fewer, good-bytes, row-there, good-codes, bad-taken}
 
@@ -68,7 +69,7 @@ module _ {s : List ℕ} {i k : ℕ} {list st rows outputs text : List ℕ} {p : 
 
   -- a byte is bad
   module _ {r : Refusal} (d : x ≡ Refused r) where
-    bad : badByte 13 0 rows ≡ some r
+    bad : badByte (ltb 3) 13 0 rows ≡ some r
     bad = refused-bad (lent-of a) e d
 
     abbrev good : ℕ

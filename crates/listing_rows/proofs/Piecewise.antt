@@ -9,8 +9,8 @@ use lib.Dec.{ltb}
 use lib.ListN.{length, take, drop, take-append-drop, length-drop}
 use lib.Seq.{length-take-le, take-all, take-add}
 use borrow.Author.Tests.{ltb-false}
-use Rattle.listing_rows.specs.declared.output.Progress.{Progress}
-use Rattle.listing_rows.specs.Printed.{Room}
+use Rattle.listing_output.specs.declared.output.Progress.{Progress}
+use Rattle.listing_output.specs.Printed.{Room}
 use Rattle.listing_rows.specs.Rows.{rowsUpTo, rowsOf}
 use Rattle.listing_rows.specs.Taken.{AcceptedState, Held, Taken, Whole, Leaves}
 use Rattle.listing_rows.proofs.Taking.{goes-no-further, rows-append, taken-none, taken-then, taken-closed}

@@ -1,27 +1,28 @@
 -- A run of rows is those rows one by one: its cycles are theirs, and the lines by its output bytes are their lines.
-use Prim.Native.Nat.{ℕ, zero, suc, _+_, _*_, _≤_, _<_}
+use Prim.Native.Nat.{ℕ, zero, suc, _*_, _≤_, _<_}
 use native.Mathlib.Nat.{one-mul, suc-mul, zero-mul}
 use native.Mathlib.Omega.{arith}
 use mathlib.Core.Path.{_≡_, refl, sym, ap, _∙_}
 use mathlib.Core.Bool.{true}
-use mathlib.Core.List.{List, [], _∷_, _++_, append-nil}
+use mathlib.Core.List.{List, [], _∷_, append-nil}
 use mathlib.Core.Option.{none}
 use lib.Dec.{lit≤}
 use lib.ListN.{length, take, drop}
 use lib.Seq.{take-all, take-at, drop-at}
 use Rattle.gates.specs.Kinds.{OUT}
-use Rattle.netlist.specs.Image.{sizesOf, netsOf}
-use Rattle.tracker.specs.Cycle.{Verdict, clear, flow, Cycle, cycleOf, cyclesOf, outputsOf, stateAfter, FirstFlow, firstOf, firstFlow}
-use Rattle.tracker.specs.Calls.{done, Ran, asRun, runRefusal, runOf}
-use Rattle.tracker.specs.Lists.{placesFrom}
-use Rattle.tracker.proofs.Cycles.{outputs-length}
-use Rattle.tracker.proofs.Selections.{selection-length}
-use Rattle.tracker.proofs.Placing.{places-selected}
-use Rattle.tracker.proofs.Calls.{Ready, run-none, run-accepted, first-ready, rest-ready}
-use Rattle.listing_rows.specs.Printed.{Printed, withCycle}
-use Rattle.listing_rows.specs.Rows.{Listed, withAnswer, withRow, rowsOf, withRows}
-use Rattle.listing_rows.specs.Taken.{verdictBy, withLines, Held, Holds, Taken}
-use Rattle.listing_rows.proofs.Verdicts.{verdict-by-outputs}
+use Rattle.image.specs.Image.{sizesOf, netsOf}
+use Rattle.cycle.specs.Cycle.{Verdict, clear, flow, Cycle, cycleOf, cyclesOf, outputsOf, stateAfter, firstOf, firstFlow}
+use Rattle.cycle.specs.Calls.{done, asRun, runOf}
+use Rattle.cycle.proofs.Cycles.{outputs-length}
+use Rattle.cycle.proofs.Selections.{selection-length}
+use Rattle.cycle.proofs.Calls.{Ready, run-none, run-accepted, first-ready, rest-ready}
+use Rattle.lists.specs.Lists.{placesFrom}
+use Rattle.lists.proofs.Placing.{places-selected}
+use Rattle.listing_output.specs.Printed.{Printed, withCycle}
+use Rattle.listing_cycles.specs.ByOutputs.{verdictBy, withLines}
+use Rattle.listing_cycles.proofs.Verdicts.{verdict-by-outputs}
+use Rattle.listing_rows.specs.Rows.{Listed, withAnswer, withRow, rowsOf}
+use Rattle.listing_rows.specs.Taken.{Holds, Taken}
 use Rattle.listing_rows.proofs.Taking.{rows-none, rows-whole}
 
 -- a line for each of some cycles

@@ -10,9 +10,9 @@ use lib.ListN.{length, take, drop, length-append, length-drop}
 use lib.Seq.{length-take-le, take-all, take-append-le, drop-append-le}
 use borrow.Author.Tests.{lt-ltb, le-ltb}
 use Rattle.listing_text.specs.Lines.{endLine}
-use Rattle.listing_rows.specs.Printed.{withLast}
+use Rattle.listing_output.specs.Printed.{withLast}
 use Rattle.listing_rows.specs.Rows.{Listed, withRow, withShort, rowsUpTo, rowsOf, withRows, withEnd}
-use Rattle.listing_rows.specs.Taken.{Held, Holds, Taken}
+use Rattle.listing_rows.specs.Taken.{Held, Taken}
 
 -- TESTS: a listing that goes on without a failure, and a third test
 pub goes-on : (p q r : Bool) → ((p && not q) && r) ≡ true → (p ≡ true) × (q ≡ false) × (r ≡ true)

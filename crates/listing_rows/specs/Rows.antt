@@ -4,11 +4,11 @@ use mathlib.Core.List.{List, [], _∷_}
 use mathlib.Core.Bool.{cond}
 use lib.Dec.{ltb}
 use lib.ListN.{length, take, drop}
-use Rattle.netlist.specs.Check.{refusal}
-use Rattle.tracker.specs.Cycle.{FirstFlow}
-use Rattle.tracker.specs.Calls.{Answer, done, refused, runOf}
+use Rattle.refusals.specs.Refusals.{refusal}
+use Rattle.cycle.specs.Cycle.{FirstFlow}
+use Rattle.cycle.specs.Calls.{Answer, done, refused, runOf}
 use Rattle.listing_text.specs.Lines.{endLine, refusedLine}
-use Rattle.listing_rows.specs.Printed.{Printed, withCycle, withLast}
+use Rattle.listing_output.specs.Printed.{Printed, withCycle, withLast}
 
 -- how far a listing has come: the state of the registers, the lent buffer of output bytes, and what is printed
 pub record Listed : Type 0 where

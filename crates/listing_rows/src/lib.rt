@@ -1,12 +1,4 @@
 // Rows of a listing, taken by runs on lent buffers, with a line for each.
-mod cycles;
-mod output;
-mod outs;
+mod rows;
 
-pub use cycles::take_rows;
-pub use output::Progress;
-pub use output::begun;
-pub use output::print_end;
-pub use output::print_refusal;
-pub use output::write_out;
-pub use outs::list_outs;
+pub use rows::take_rows;

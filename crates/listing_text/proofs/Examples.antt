@@ -1,6 +1,7 @@
 -- The examples of lines hold, by computation.
 use mathlib.Core.Path.{refl}
-use Rattle.listing_text.specs.Lines.{digitsUpTo, decimal, outputDigits, cycleLine, endLine, refusedLine}
+use Rattle.text.specs.Decimal.{digitsUpTo, decimal}
+use Rattle.listing_text.specs.Lines.{outputDigits, cycleLine, endLine, refusedLine}
 use Rattle.listing_text.specs.Examples.{LineExamples}
 
 pub line-examples : LineExamples

@@ -4,10 +4,12 @@ use native.Mathlib.Omega.{arith}
 use mathlib.Core.Path.{_≡_}
 use mathlib.Core.List.{List, [], _∷_, _++_}
 use lib.ListN.{length, length-append, length-map}
-use Rattle.netlist.specs.declared.answer.Refusal.{Refusal}
-use Rattle.tracker.specs.Cycle.{Verdict, clear, flow}
-use Rattle.listing_text.specs.Lines.{space, newline, decimal, numbered, endWord, refusedWord, digit, outputDigits, verdictText, cycleLine, endLine, refusedLine}
-use Rattle.listing_text.proofs.Decimal.{decimal-most}
+use Rattle.refusals.specs.declared.answer.Refusal.{Refusal}
+use Rattle.cycle.specs.Cycle.{Verdict, clear, flow}
+use Rattle.text.specs.Ascii.{space, newline}
+use Rattle.text.specs.Decimal.{decimal, numbered}
+use Rattle.text.proofs.Decimal.{decimal-most}
+use Rattle.listing_text.specs.Lines.{endWord, refusedWord, digit, outputDigits, verdictText, cycleLine, endLine, refusedLine}
 
 -- a byte for each output, and one where there is none
 outputs-within : (n : ℕ) (xs : List ℕ) → 1 ≤ n → length xs ≤ n → length (outputDigits xs) ≤ n

@@ -1,6 +1,4 @@
--- Laws of numbers in decimal, and of texts that are put one behind the other; and the examples of lines.
-pub mod Decimal
-pub mod Putting
+-- Laws of the outputs of a line and of the length of lines, and the examples of lines.
+pub mod Outputs
 pub mod Lengths
 pub mod Examples
-pub mod Numbers

@@ -1,9 +1,9 @@
 -- Lines of the listing, as the text that a reader sees.
 use mathlib.Core.Path.{_≡_}
 use mathlib.Core.List.{[], _∷_}
-use Rattle.netlist.specs.Check.{refusal}
-use Rattle.tracker.specs.Cycle.{clear, flow}
-use Rattle.listing_text.specs.Ascii.{ascii}
+use Rattle.refusals.specs.Refusals.{refusal}
+use Rattle.cycle.specs.Cycle.{clear, flow}
+use Rattle.text.specs.Ascii.{ascii}
 use Rattle.listing_text.specs.Lines.{cycleLine, endLine, refusedLine}
 
 -- proved as `line-examples`

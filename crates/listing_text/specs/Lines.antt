@@ -1,25 +1,15 @@
--- The lines of the listing program, in ASCII, and how one is put into a lent buffer.
-use Prim.Native.Nat.{ℕ, zero, suc, _+_, _/_, _%_}
+-- The lines of the listing program, in ASCII.
+use Prim.Native.Nat.{ℕ, _+_, _%_}
 use mathlib.Core.List.{List, [], _∷_, _++_, map}
-use mathlib.Core.Bool.{cond}
-use lib.Dec.{leb, ltb}
-use lib.ListN.{length}
-use lib.Seq.{sets}
-use Rattle.netlist.specs.declared.answer.Refusal.{Refusal}
-use Rattle.tracker.specs.Cycle.{Verdict, clear, flow}
-use Rattle.listing_text.specs.Ascii.{ascii}
+use Rattle.refusals.specs.declared.answer.Refusal.{Refusal}
+use Rattle.cycle.specs.Cycle.{Verdict, clear, flow}
+use Rattle.text.specs.Ascii.{ascii, space, newline}
+use Rattle.text.specs.Decimal.{decimal, numbered}
 
--- a space, a dash, and the end of a line
-abbrev pub space : List ℕ
-space = ascii " "
-
+-- a dash, and the words of the lines
 abbrev pub dash : List ℕ
 dash = ascii "-"
 
-abbrev pub newline : List ℕ
-newline = ascii "\n"
-
--- the words of the lines
 abbrev pub clearWord : List ℕ
 clearWord = ascii "clear"
 
@@ -31,19 +21,6 @@ endWord = ascii "end"
 
 abbrev pub refusedWord : List ℕ
 refusedWord = ascii "refused"
-
--- the decimal digits of a number that has at most so many, the most significant first
-unfoldable pub digitsUpTo : (most : ℕ) → ℕ → List ℕ
-digitsUpTo zero n = []
-digitsUpTo (suc most) n = cond (ltb n 10) ((48 + n) ∷ []) (digitsUpTo most (n / 10) ++ ((48 + n % 10) ∷ []))
-
--- a number in decimal: a u64 has at most 20 digits
-unfoldable pub decimal : ℕ → List ℕ
-decimal n = digitsUpTo 20 n
-
--- a word and a number, one space between
-abbrev pub numbered : (word : List ℕ) → ℕ → List ℕ
-numbered word n = word ++ space ++ decimal n
 
 -- the digit of an OUT's byte: a byte of a net is 0 to 3, and of any other byte this is the last digit
 abbrev pub digit : ℕ → ℕ
@@ -70,19 +47,3 @@ endLine cycles = numbered endWord cycles ++ newline
 -- a refusal prints refused, number, place
 unfoldable pub refusedLine : Refusal → List ℕ
 refusedLine r = numbered refusedWord (r .number) ++ (space ++ decimal (r .place)) ++ newline
-
--- a lent buffer, and the place where the next line goes
-pub record Put : Type 0 where
-  pub buffer : List ℕ
-  pub place : ℕ
-
--- a line is put at a place, over what stood there; where it does not fit, the buffer and the place stay. `sets d p ys` is d with the bytes ys from place p on
-unfoldable pub put : (buffer : List ℕ) (place : ℕ) (line : List ℕ) → Put
-put buffer place line =
-    cond (leb (place + length line) (length buffer))
-    (record { buffer = sets buffer place line; place = place + length line })
-    (record { buffer = buffer; place = place })
-
--- what a call of this crate did
-abbrev pub did : (buffer : List ℕ) (place : ℕ) → Put
-did buffer place = record { buffer = buffer; place = place }

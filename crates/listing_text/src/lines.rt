@@ -1,22 +1,23 @@
 // The three kinds of lines. A line is put at a place of a lent buffer, and the answer is the place behind it; where the line does not fit,
 // nothing is written and the answer is the place itself.
-use crate::pieces::digit_count;
-use crate::pieces::fits;
 use crate::pieces::outputs_length;
-use crate::pieces::put_number;
-use crate::pieces::put_numbered;
 use crate::pieces::put_outputs;
-use crate::pieces::put_text;
 use crate::pieces::put_verdict;
 use crate::pieces::verdict_length;
-use netlist::Refusal;
-use tracker::Verdict;
+use cycle::Verdict;
+use refusals::Refusal;
+use text::digit_count;
+use text::fits;
+use text::put_number;
+use text::put_numbered;
+use text::put_text;
 ghost use mathlib.Core.Path.{_≡_};
 ghost use Prim.Native.Nat.{_+_, _≤_};
 ghost use lib.ListN.{length};
 ghost use lib.Seq.{sets};
-ghost use Rattle.tracker.specs.Answers.{verdictIn};
-ghost use Rattle.listing_text.specs.Lines.{cycleLine, endLine, refusedLine, put, did};
+ghost use Rattle.cycle.specs.Answers.{verdictIn};
+ghost use Rattle.text.specs.Put.{put, did};
+ghost use Rattle.listing_text.specs.Lines.{cycleLine, endLine, refusedLine};
 
 // The line of a cycle, where there is room for it.
 fn put_cycle(buffer: &mut [u8], at: usize, cycle: u64, outputs: &[u8], verdict: Verdict) -> usize

@@ -1,73 +1,16 @@
-// The pieces of a line. Each is put at a place of a lent buffer that has room for it, and answers the place behind it.
-use tracker::Verdict;
+// The listing's own pieces of a line: outputs and verdicts. Each is put at a place of a lent buffer that has room for it, and answers the
+// place behind it.
+use cycle::Verdict;
+use text::digit_count;
+use text::put_numbered;
+use text::put_text;
 ghost use mathlib.Core.Path.{_≡_};
 ghost use mathlib.Core.List.{map};
 ghost use Prim.Native.Nat.{_+_, _≤_};
-ghost use lib.Dec.{leb};
-ghost use lib.ListN.{length, take};
+ghost use lib.ListN.{length};
 ghost use lib.Seq.{sets};
-ghost use Rattle.io.specs.Counts.{Counts};
-ghost use Rattle.tracker.specs.Answers.{verdictIn};
-ghost use Rattle.listing_text.specs.Lines.{decimal, numbered, digit, outputDigits, verdictText};
-
-// Whether a buffer has room for so many bytes from a place on.
-pub fn fits(buffer: &[u8], at: usize, bytes: usize) -> bool
-    ensures { λ r. ⌜ r ≡ leb (at + bytes) (length (now (buffer .entry))) ⌝ }
-{
-    at <= buffer.len() && bytes <= buffer.len() - at
-}
-
-// The decimal digits of a number, at the start of an array; the answer is how many there are.
-pub fn digits_of(n: u64, digits: &mut [u8; 20]) -> usize
-    ensures { λ r. ⌜ Counts r (now (digits .exit)) ⌝ }
-    ensures { λ r. ⌜ take r (now (digits .exit)) ≡ decimal n ⌝ }
-{
-    io::decimal(n, digits)
-}
-
-// How many digits a number has.
-pub fn digit_count(n: u64) -> usize
-    ensures { λ r. ⌜ r ≡ length (decimal n) ⌝ }
-{
-    let mut digits = [0u8; 20];
-    digits_of(n, &mut digits)
-}
-
-// A text as it is.
-pub fn put_text(buffer: &mut [u8], at: usize, text: &[u8]) -> usize
-    requires { ⌜ at + length (now text) ≤ length (now buffer) ⌝ }
-    ensures { λ r. ⌜ now (buffer .exit) ≡ sets (now (buffer .entry)) at (now (text .entry)) ⌝ }
-    ensures { λ r. ⌜ r ≡ at + length (now (text .entry)) ⌝ }
-{
-    let mut i: usize = 0;
-    while i < text.len() {
-        buffer[at + i] = text[i];
-        i += 1;
-    }
-    at + i
-}
-
-// A number in decimal.
-pub fn put_number(buffer: &mut [u8], at: usize, n: u64) -> usize
-    requires { ⌜ at + length (decimal n) ≤ length (now buffer) ⌝ }
-    ensures { λ r. ⌜ now (buffer .exit) ≡ sets (now (buffer .entry)) at (decimal n) ⌝ }
-    ensures { λ r. ⌜ r ≡ at + length (decimal n) ⌝ }
-{
-    let mut digits = [0u8; 20];
-    let k = digits_of(n, &mut digits);
-    put_text(buffer, at, &digits[..k])
-}
-
-// A word and a number, one space between.
-pub fn put_numbered(buffer: &mut [u8], at: usize, word: &[u8], n: u64) -> usize
-    requires { ⌜ at + length (numbered (now word) n) ≤ length (now buffer) ⌝ }
-    ensures { λ r. ⌜ now (buffer .exit) ≡ sets (now (buffer .entry)) at (numbered (now (word .entry)) n) ⌝ }
-    ensures { λ r. ⌜ r ≡ at + length (numbered (now (word .entry)) n) ⌝ }
-{
-    let p = put_text(buffer, at, word);
-    let q = put_text(buffer, p, b" ");
-    put_number(buffer, q, n)
-}
+ghost use Rattle.cycle.specs.Answers.{verdictIn};
+ghost use Rattle.listing_text.specs.Lines.{digit, outputDigits, verdictText};
 
 // How many bytes the digits of the outputs take.
 pub fn outputs_length(outputs: &[u8]) -> usize

@@ -1,11 +1,11 @@
 // Power-up.
 use crate::refusing::power_up_refusal;
-use crate::registers::take_starts;
-use netlist::Outcome;
-use netlist::sizes_of;
+use cycle_parts::take_starts;
+use image::sizes_of;
+use refusals::Outcome;
 ghost use mathlib.Core.Path.{_≡_};
-ghost use Rattle.tracker.specs.Answers.{poweredUp};
-ghost use Rattle.tracker.specs.Calls.{powerUpOf};
+ghost use Rattle.cycle.specs.Answers.{poweredUp};
+ghost use Rattle.cycle.specs.Calls.{powerUpOf};
 
 // Every register takes its start value, or 0 where none is given, with mark 0. What the state held is not looked at. It turns back with 1 to 8 and 10.
 pub fn power_up(image: &[u8], state: &mut [u8]) -> Outcome

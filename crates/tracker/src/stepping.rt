@@ -1,15 +1,15 @@
 // A step: one cycle.
-use crate::answer::StepAnswer;
-use crate::nets::work_out;
 use crate::refusing::step_refusal;
-use crate::registers::clock;
-use crate::verdict::verdict_of;
+use cycle::StepAnswer;
+use cycle_parts::clock;
+use cycle_parts::verdict_of;
+use cycle_parts::work_out;
 use gates::table;
-use netlist::Outcome;
-use netlist::sizes_of;
+use image::sizes_of;
+use refusals::Outcome;
 ghost use mathlib.Core.Path.{_≡_};
-ghost use Rattle.tracker.specs.Answers.{stepped};
-ghost use Rattle.tracker.specs.Calls.{stepOf};
+ghost use Rattle.cycle.specs.Answers.{stepped};
+ghost use Rattle.cycle.specs.Calls.{stepOf};
 
 // One cycle on a row of I bytes: it fills N net bytes, answers with the verdict, and then clocks the state. It turns back with 1 to 8 and 10 to 14.
 pub fn step(image: &[u8], state: &mut [u8], row: &[u8], nets: &mut [u8]) -> StepAnswer

@@ -7,7 +7,8 @@ use crate::case::Case;
 use crate::counts::Counts;
 use crate::failure::Outcome;
 use crate::netlists;
-use crate::nets::{encode, image_length, Net, AND, CONST, INPUT, MOST_NETS, OR, XOR};
+use tracker::kinds::{AND, CONST, INPUT, OR, XOR};
+use tracker::{encode, image_length, Net, MOST_NETS};
 
 pub fn run(case: &mut Case) -> Outcome {
     let nets = netlist(case);

@@ -7,7 +7,7 @@ use crate::case::Case;
 use crate::counts::Counts;
 use crate::drawing;
 use crate::failure::Outcome;
-use crate::nets::{encode, Net};
+use tracker::{encode, Net};
 
 /// The numbers of netlists of one, two and three nets: for each net as many
 /// factors as there are good nets with its number.

@@ -4,11 +4,14 @@
 use crate::bytes::tracked;
 use crate::case::Case;
 use crate::counts::Counts;
-use crate::cycles::MOST_CYCLES;
 use crate::drawing;
 use crate::failure::Outcome;
 use crate::netlists;
-use crate::nets::{encode, Net, CONST, INPUT, MOST_NETS, NOT, OUT, REG};
+use tracker::kinds::{CONST, INPUT, NOT, OUT, REG};
+use tracker::{encode, Net, MOST_CYCLES, MOST_NETS};
+
+/// The number behind the last net of the largest netlist.
+const END: u16 = MOST_NETS as u16;
 
 pub const CASES: u64 = 8;
 
@@ -46,16 +49,16 @@ fn netlist(case: &mut Case) -> Vec<Net> {
         }
         // A ring of 8,192 registers, each of which takes the next one's byte.
         2 => {
-            let next = |number| Net::new(REG, (number + 1) % MOST_NETS, number % 3, 0);
-            (0..MOST_NETS).map(next).collect()
+            let next = |number| Net::new(REG, (number + 1) % END, number % 3, 0);
+            (0..END).map(next).collect()
         }
         // Neither inputs nor registers nor outputs.
         3 => vec![Net::new(CONST, 1, 0, 0); MOST_NETS],
         // A chain of NOTs behind an input, and a protected output at its end.
         4 => {
             let mut nets = vec![Net::new(INPUT, 0, 0, 0)];
-            nets.extend((1..MOST_NETS - 1).map(|number| Net::new(NOT, number - 1, 0, 0)));
-            nets.push(Net::new(OUT, MOST_NETS - 2, 1, 0));
+            nets.extend((1..END - 1).map(|number| Net::new(NOT, number - 1, 0, 0)));
+            nets.push(Net::new(OUT, END - 2, 1, 0));
             nets
         }
         // A chain of registers behind an input. What is marked there reaches

@@ -8,7 +8,8 @@ use crate::case::Case;
 use crate::counts::Counts;
 use crate::drawing;
 use crate::failure::Outcome;
-use crate::nets::{encode, Net, INPUT};
+use tracker::kinds::INPUT;
+use tracker::{encode, Net};
 
 /// A case has one choice of nets 0 to 2, and all 78 of net 3.
 pub const CASES: u64 = 15 * 22 * 41;

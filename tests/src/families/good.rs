@@ -8,7 +8,7 @@ use crate::cycles::few;
 use crate::drawing;
 use crate::failure::Outcome;
 use crate::netlists;
-use crate::nets::encode;
+use tracker::{encode, Net};
 
 pub fn run(case: &mut Case) -> Outcome {
     let nets = netlists::small(&mut case.random);
@@ -18,7 +18,7 @@ pub fn run(case: &mut Case) -> Outcome {
 
 /// Checks a netlist, powers it up, steps and runs from there, steps and runs
 /// from any state, and doubles it.
-pub fn calls(case: &mut Case, nets: &[crate::nets::Net], k: usize) -> Outcome {
+pub fn calls(case: &mut Case, nets: &[Net], k: usize) -> Outcome {
     let counts = Counts::of(nets);
     let image = encode(nets);
     case.compare(&image, &mut Call::check())?;

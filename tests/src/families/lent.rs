@@ -9,7 +9,7 @@ use crate::cycles::few;
 use crate::drawing;
 use crate::failure::Outcome;
 use crate::netlists;
-use crate::nets::encode;
+use tracker::encode;
 
 pub fn run(case: &mut Case) -> Outcome {
     let nets = netlists::mostly_small(&mut case.random, 150);

@@ -7,7 +7,7 @@ use crate::drawing;
 use crate::failure::Outcome;
 use crate::faults::{damaged, Fault};
 use crate::netlists;
-use crate::nets::{encode, Net};
+use tracker::{encode, Net};
 
 /// The state starts with good bytes, or with any, which every step and run
 /// refuses until a power-up.

@@ -8,8 +8,8 @@ use crate::counts::Counts;
 use crate::drawing;
 use crate::failure::Outcome;
 use crate::netlists;
-use crate::nets::{encode, image_length};
 use crate::random::Random;
+use tracker::{encode, encode_with, Net, Sizes};
 
 pub fn run(case: &mut Case) -> Outcome {
     let nets = netlists::small(&mut case.random);
@@ -56,21 +56,30 @@ fn extended(random: &mut Random, good: &[u8]) -> Vec<u8> {
     [good, &more].concat()
 }
 
-/// Random bytes, small enough that many pass for kinds, operands and sizes, in
+/// Random numbers, small enough that many pass for kinds, operands and sizes, in
 /// an image of the right length for a small N.
 fn likely(random: &mut Random) -> Vec<u8> {
     let size = random.between(1, 4);
-    let mut image = vec![0; image_length(size)];
-    image[0] = size as u8;
-    for index in [2, 4, 6] {
-        image[index] = random.below(2) as u8;
-    }
-    for kind in &mut image[8..8 + size] {
-        *kind = random.pick(&[0, 1, 2, 3, 4, 5, 6, 7, 8, 1, 2, 8, 9]);
-    }
-    for operand in image[8 + size..].chunks_mut(2) {
-        operand[0] = random.pick(&[0, 0, 0, 0, 1, 1, 2, 3]);
-        operand[1] = u8::from(random.chance(1, 60));
-    }
-    image
+    let [inputs, registers, outputs] = [(); 3].map(|()| random.below(2));
+    let sizes = Sizes {
+        nets: size,
+        inputs,
+        registers,
+        outputs,
+    };
+    let kinds: Vec<u8> = (0..size).map(|_| likely_kind(random)).collect();
+    let nets = kinds.into_iter().map(|kind| Net {
+        kind,
+        operands: [(); 3].map(|()| likely_operand(random)),
+    });
+    encode_with(sizes, &nets.collect::<Vec<Net>>())
+}
+
+fn likely_kind(random: &mut Random) -> u8 {
+    random.pick(&[0, 1, 2, 3, 4, 5, 6, 7, 8, 1, 2, 8, 9])
+}
+
+fn likely_operand(random: &mut Random) -> u16 {
+    let low = random.pick(&[0, 0, 0, 0, 1, 1, 2, 3]);
+    low + 256 * u16::from(random.chance(1, 60))
 }

@@ -5,14 +5,14 @@ use crate::all::all_nets;
 use crate::call::Call;
 use crate::case::Case;
 use crate::failure::Outcome;
-use crate::nets::{encode_with, sizes_of, Net};
+use tracker::{encode_with, Net, Sizes};
 
 /// The places of the net: net 0 of 1, nets 0 and 1 of 2, nets 0 to 2 of 3.
 const PLACES: [(usize, usize); 6] = [(0, 1), (0, 2), (1, 2), (0, 3), (1, 3), (2, 3)];
 
 const KINDS: [u8; 12] = [0, 1, 2, 3, 4, 5, 6, 7, 8, 9, 136, 255];
 
-const VALUES: [usize; 10] = [0, 1, 2, 3, 4, 255, 256, 257, 8192, 65_535];
+const VALUES: [u16; 10] = [0, 1, 2, 3, 4, 255, 256, 257, 8192, 65_535];
 
 pub const CASES: u64 = (PLACES.len() * KINDS.len()) as u64;
 
@@ -37,9 +37,13 @@ pub fn run(case: &mut Case) -> Outcome {
 /// Checks an image with the right sizes, or, in some calls, with one of I, R
 /// and O that is too large.
 fn check(case: &mut Case, nets: &[Net]) -> Outcome {
-    let mut sizes = sizes_of(nets);
+    let mut sizes = Sizes::of(nets);
     if case.random.chance(1, 16) {
-        sizes[case.random.between(1, 3)] += 1;
+        match case.random.below(3) {
+            0 => sizes.inputs += 1,
+            1 => sizes.registers += 1,
+            _ => sizes.outputs += 1,
+        }
     }
     case.compare(&encode_with(sizes, nets), &mut Call::check())?;
     Ok(())

@@ -9,8 +9,8 @@ use crate::cycles::few;
 use crate::doubled::{double, split, Doubled};
 use crate::failure::{Failure, Outcome};
 use crate::netlists;
-use crate::nets::{encode, Net};
 use crate::replay::steps;
+use tracker::{encode, Net};
 
 pub fn run(case: &mut Case) -> Outcome {
     let nets = netlist(case);

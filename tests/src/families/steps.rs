@@ -9,8 +9,8 @@ use crate::cycles::few;
 use crate::drawing;
 use crate::failure::Outcome;
 use crate::netlists;
-use crate::nets::encode;
 use crate::replay::{same_as_run, steps};
+use tracker::encode;
 
 pub fn run(case: &mut Case) -> Outcome {
     let nets = netlists::mostly_small(&mut case.random, 100);

@@ -1,7 +1,9 @@
 //! Stand-ins with wrong answers. The bytes that they leave are right.
 
-use crate::parts::{bytes, kind, operand, refusal, size, CLEAR};
+use crate::parts::{bytes, read};
+use tests::coding::{number_of, CLEAR};
 use tests::{Calls, LIBRARY};
+use tracker::kinds::OUT;
 
 const ONE: u64 = 1 << 32;
 
@@ -13,7 +15,7 @@ pub const ACCEPTS_WRONG_COUNTS: Calls = Calls {
 
 extern "C" fn check_without_8(image: *const u8, length: usize) -> u64 {
     let answer = unsafe { (LIBRARY.check)(image, length) };
-    if refusal(answer) == 8 {
+    if number_of(answer) == 8 {
         0
     } else {
         answer
@@ -28,7 +30,7 @@ pub const NEXT_PLACE: Calls = Calls {
 
 extern "C" fn check_next_place(image: *const u8, length: usize) -> u64 {
     let answer = unsafe { (LIBRARY.check)(image, length) };
-    match refusal(answer) {
+    match number_of(answer) {
         4..=7 => answer + 1,
         _ => answer,
     }
@@ -46,8 +48,8 @@ unsafe extern "C" fn run_place_in_its_row(
     rows: *const u8, rl: usize, outputs: *mut u8, ol: usize,
 ) -> u64 {
     let answer = (LIBRARY.run)(image, il, k, state, sl, rows, rl, outputs, ol);
-    match refusal(answer) {
-        13 => 13 * ONE + answer % ONE % size(bytes(image, il), 1) as u64,
+    match number_of(answer) {
+        13 => 13 * ONE + answer % ONE % read(image, il).sizes().inputs as u64,
         _ => answer,
     }
 }
@@ -64,12 +66,12 @@ unsafe extern "C" fn step_highest_flow(
     row: *const u8, rl: usize, nets: *mut u8, nl: usize,
 ) -> u64 {
     let answer = (LIBRARY.step)(image, il, state, sl, row, rl, nets, nl);
-    if refusal(answer) != 0 {
+    if number_of(answer) != 0 {
         return answer;
     }
-    let (image, nets) = (bytes(image, il), bytes(nets, nl));
+    let (image, nets) = (read(image, il), bytes(nets, nl));
     let flows = |net: &usize| {
-        kind(image, *net) == 8 && operand(image, *net, 1) == 1 && nets[*net] >= 2
+        image.kinds()[*net] == OUT && image.operand(*net, 1) == 1 && nets[*net] >= 2
     };
     (0..nl).rev().find(flows).map_or(CLEAR, |net| net as u64)
 }
@@ -86,7 +88,7 @@ unsafe extern "C" fn run_always_clear(
     rows: *const u8, rl: usize, outputs: *mut u8, ol: usize,
 ) -> u64 {
     let answer = (LIBRARY.run)(image, il, k, state, sl, rows, rl, outputs, ol);
-    match refusal(answer) {
+    match number_of(answer) {
         0 => k as u64 * 65_536 + CLEAR,
         _ => answer,
     }

@@ -1,7 +1,9 @@
 //! Stand-ins that get the cycles wrong: the clock, or what a run leaves.
 
-use crate::parts::{bytes, bytes_mut, kind, operand, refusal, size, CLEAR};
+use crate::parts::{bytes, bytes_mut, read};
+use tests::coding::{number_of, CLEAR};
 use tests::{Calls, LIBRARY};
+use tracker::kinds::REG;
 
 /// Steps without a clock: the state stays as it was.
 pub const NOT_CLOCKED: Calls = Calls {
@@ -32,14 +34,14 @@ unsafe extern "C" fn step_clocked_in_turn(
     row: *const u8, rl: usize, nets: *mut u8, nl: usize,
 ) -> u64 {
     let answer = (LIBRARY.step)(image, il, state, sl, row, rl, nets, nl);
-    if refusal(answer) != 0 {
+    if number_of(answer) != 0 {
         return answer;
     }
-    let (image, state) = (bytes(image, il), bytes_mut(state, sl));
+    let (image, state) = (read(image, il), bytes_mut(state, sl));
     let mut seen = bytes(nets, nl).to_vec();
-    let registers = (0..nl).filter(|net| kind(image, *net) == 2);
+    let registers = (0..nl).filter(|net| image.kinds()[*net] == REG);
     for (index, net) in registers.enumerate() {
-        seen[net] = seen[operand(image, net, 0)];
+        seen[net] = seen[usize::from(image.operand(net, 0))];
         state[index] = seen[net];
     }
     answer
@@ -58,9 +60,9 @@ unsafe extern "C" fn run_stops_at_flow(
 ) -> u64 {
     let before = bytes(outputs, ol).to_vec();
     let answer = (LIBRARY.run)(image, il, k, state, sl, rows, rl, outputs, ol);
-    if refusal(answer) == 0 && answer % 65_536 != CLEAR {
+    if number_of(answer) == 0 && answer % 65_536 != CLEAR {
         let cycles = (answer / 65_536) as usize + 1;
-        let filled = cycles * size(bytes(image, il), 3);
+        let filled = cycles * read(image, il).sizes().outputs;
         bytes_mut(outputs, ol)[filled..].copy_from_slice(&before[filled..]);
     }
     answer
@@ -78,7 +80,7 @@ unsafe extern "C" fn run_copies_cycle_0(
     rows: *const u8, rl: usize, outputs: *mut u8, ol: usize,
 ) -> u64 {
     let answer = (LIBRARY.run)(image, il, k, state, sl, rows, rl, outputs, ol);
-    if refusal(answer) == 0 && k > 0 {
+    if number_of(answer) == 0 && k > 0 {
         let outputs = bytes_mut(outputs, ol);
         for index in ol / k..ol {
             outputs[index] = outputs[index % (ol / k)];

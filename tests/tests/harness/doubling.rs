@@ -1,7 +1,8 @@
 //! Stand-ins that get doubling wrong.
 
-use crate::parts::{bytes, bytes_mut, size};
+use crate::parts::{bytes_mut, read};
 use tests::{Calls, LIBRARY};
+use tracker::{image_length, operand_place, GROUP_LENGTHS};
 
 /// Writes a doubled image with one wrong byte: operand a of its last net. The
 /// mark net of the last group then reads another net.
@@ -13,7 +14,8 @@ pub const ONE_BYTE_WRONG: Calls = Calls {
 unsafe extern "C" fn double_one_wrong(i: *const u8, il: usize, buffer: *mut u8, bl: usize) -> u64 {
     let answer = (LIBRARY.double)(i, il, buffer, bl);
     if answer == 0 {
-        bytes_mut(buffer, bl)[bl - 6] ^= 1;
+        let nets = read(buffer, bl).sizes().nets;
+        bytes_mut(buffer, bl)[operand_place(nets, nets - 1, 0)] ^= 1;
     }
     answer
 }
@@ -43,11 +45,9 @@ unsafe extern "C" fn double_longer(i: *const u8, il: usize, buffer: *mut u8, bl:
     if answer >> 32 != 16 {
         return answer;
     }
-    let groups = [2, 2, 2, 2, 6, 8, 2, 7, 2];
-    let image = bytes(i, il);
-    let kinds = &image[8..8 + size(image, 0)];
-    let doubled: usize = kinds.iter().map(|kind| groups[usize::from(*kind)]).sum();
-    let length = 8 + 7 * doubled;
+    let kinds = read(i, il).kinds().iter();
+    let doubled = kinds.map(|kind| GROUP_LENGTHS[usize::from(*kind)]).sum();
+    let length = image_length(doubled);
     if bl < length {
         return answer;
     }

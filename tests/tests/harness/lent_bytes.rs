@@ -1,7 +1,8 @@
 //! Stand-ins that leave wrong bytes, in the buffers or beside them. Their
 //! answers are right.
 
-use crate::parts::{bytes_mut, refusal};
+use crate::parts::bytes_mut;
+use tests::coding::number_of;
 use tests::{Calls, LIBRARY};
 
 /// Writes the byte before the state.
@@ -56,7 +57,7 @@ unsafe extern "C" fn step_one_wrong(
     row: *const u8, rl: usize, nets: *mut u8, nl: usize,
 ) -> u64 {
     let answer = (LIBRARY.step)(image, il, state, sl, row, rl, nets, nl);
-    if refusal(answer) == 0 {
+    if number_of(answer) == 0 {
         bytes_mut(nets, nl)[nl - 1] ^= 2;
     }
     answer
@@ -89,7 +90,7 @@ unsafe extern "C" fn step_all_marked(
     row: *const u8, rl: usize, nets: *mut u8, nl: usize,
 ) -> u64 {
     let answer = (LIBRARY.step)(image, il, state, sl, row, rl, nets, nl);
-    if refusal(answer) == 0 {
+    if number_of(answer) == 0 {
         bytes_mut(nets, nl).iter_mut().for_each(|byte| *byte |= 2);
         bytes_mut(state, sl).iter_mut().for_each(|byte| *byte |= 2);
     }
@@ -108,7 +109,7 @@ unsafe extern "C" fn run_refused_writes(
     rows: *const u8, rl: usize, outputs: *mut u8, ol: usize,
 ) -> u64 {
     let answer = (LIBRARY.run)(image, il, k, state, sl, rows, rl, outputs, ol);
-    if refusal(answer) == 13 {
+    if number_of(answer) == 13 {
         bytes_mut(outputs, ol).fill(0);
     }
     answer

@@ -94,7 +94,7 @@ fn a_report_says_what_is_needed() {
          the library answers 0x0: done\n\
          the reference says  0x0: done\n\
          first differing byte: guard byte 1 before the state was written: it is {is}, expected {expected}\n\
-         run it again: TRACKER_CASE=exhaustive:0 cargo test --manifest-path tests/Cargo.toml one_case -- --nocapture"
+         run it again: TRACKER_CASE=exhaustive:0 cargo test --offline -p tests one_case -- --nocapture"
     );
     assert_eq!(failure.to_string(), text);
 }

@@ -1,7 +1,8 @@
 //! Stand-ins that try the conditions of refusals in a wrong order, or with a
 //! number of cycles that lost its high bits.
 
-use crate::parts::{bytes, refusal, size};
+use crate::parts::read;
+use tests::coding::number_of;
 use tests::{Calls, LIBRARY};
 
 const ONE: u64 = 1 << 32;
@@ -18,8 +19,8 @@ unsafe extern "C" fn step_buffer_first(
     row: *const u8, rl: usize, nets: *mut u8, nl: usize,
 ) -> u64 {
     let answer = (LIBRARY.step)(image, il, state, sl, row, rl, nets, nl);
-    match refusal(answer) {
-        10..=13 if nl != size(bytes(image, il), 0) => 14 * ONE,
+    match number_of(answer) {
+        10..=13 if nl != read(image, il).sizes().nets => 14 * ONE,
         _ => answer,
     }
 }
@@ -51,8 +52,8 @@ unsafe extern "C" fn run_product_first(
     rows: *const u8, rl: usize, outputs: *mut u8, ol: usize,
 ) -> u64 {
     let answer = (LIBRARY.run)(image, il, k, state, sl, rows, rl, outputs, ol);
-    match refusal(answer) {
-        9 if rl != k.wrapping_mul(size(bytes(image, il), 1)) => 12 * ONE,
+    match number_of(answer) {
+        9 if rl != k.wrapping_mul(read(image, il).sizes().inputs) => 12 * ONE,
         _ => answer,
     }
 }

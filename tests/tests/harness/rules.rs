@@ -1,8 +1,11 @@
 //! Stand-ins with a wrong gate rule, in steps and in runs alike.
 
-use crate::parts::{bytes, bytes_mut, kind, operand, refusal, size, CLEAR};
+use crate::parts::{bytes, bytes_mut, read};
 use reference::{and_byte, mux_byte, not_byte, or_byte, xor_byte};
+use tests::coding::{number_of, CLEAR};
 use tests::{Calls, LIBRARY};
+use tracker::kinds::{AND, CONST, INPUT, MUX, NOT, OR, OUT, REG, XOR};
+use tracker::Image;
 
 /// A rule gives the byte of a gate or an OUT: its kind, its three operands, and
 /// the bytes of the nets that they name.
@@ -10,11 +13,11 @@ type Rule = fn(u8, [usize; 3], [u8; 3]) -> u8;
 
 fn right(kind: u8, _: [usize; 3], [a, b, c]: [u8; 3]) -> u8 {
     match kind {
-        3 => not_byte(a),
-        4 => and_byte(a, b),
-        5 => or_byte(a, b),
-        6 => xor_byte(a, b),
-        7 => mux_byte(a, b, c),
+        NOT => not_byte(a),
+        AND => and_byte(a, b),
+        OR => or_byte(a, b),
+        XOR => xor_byte(a, b),
+        MUX => mux_byte(a, b, c),
         _ => a,
     }
 }
@@ -27,14 +30,14 @@ fn any_pin_marks(kind: u8, pins: [usize; 3], bytes: [u8; 3]) -> u8 {
 
 fn chosen_pin_marks(kind: u8, pins: [usize; 3], [a, b, c]: [u8; 3]) -> u8 {
     match kind {
-        7 => mux_byte(a, b, c % 2),
+        MUX => mux_byte(a, b, c % 2),
         _ => right(kind, pins, [a, b, c]),
     }
 }
 
 fn own_xor_is_clear(kind: u8, pins: [usize; 3], bytes: [u8; 3]) -> u8 {
     match kind {
-        6 if pins[0] == pins[1] => 0,
+        XOR if pins[0] == pins[1] => 0,
         _ => right(kind, pins, bytes),
     }
 }
@@ -60,26 +63,25 @@ const fn by_rule<const RULE: usize>() -> Calls {
 
 /// One cycle by a rule: the nets and the verdict as an answer. The state is
 /// clocked.
-fn cycle(rule: Rule, image: &[u8], state: &mut [u8], row: &[u8]) -> (Vec<u8>, u64) {
-    let n = size(image, 0);
-    let mut nets = vec![0; n];
+fn cycle(rule: Rule, image: Image, state: &mut [u8], row: &[u8]) -> (Vec<u8>, u64) {
+    let mut nets = vec![0; image.sizes().nets];
     let (mut inputs, mut registers) = (row.iter(), state.iter());
     let mut verdict = CLEAR;
-    for net in 0..n {
-        let pins = [0, 1, 2].map(|index| operand(image, net, index));
-        nets[net] = match kind(image, net) {
-            0 => pins[0] as u8,
-            1 => *inputs.next().unwrap(),
-            2 => *registers.next().unwrap(),
+    for (number, net) in image.nets().enumerate() {
+        let pins = net.operands.map(usize::from);
+        nets[number] = match net.kind {
+            CONST => pins[0] as u8,
+            INPUT => *inputs.next().unwrap(),
+            REG => *registers.next().unwrap(),
             kind => rule(kind, pins, pins.map(|pin| nets[pin])),
         };
-        if kind(image, net) == 8 && pins[1] == 1 && nets[net] >= 2 && verdict == CLEAR {
-            verdict = net as u64;
+        if net.kind == OUT && pins[1] == 1 && nets[number] >= 2 && verdict == CLEAR {
+            verdict = number as u64;
         }
     }
-    let registers = (0..n).filter(|net| kind(image, *net) == 2);
-    for (index, net) in registers.enumerate() {
-        state[index] = nets[operand(image, net, 0)];
+    let registers = image.nets().filter(|net| net.kind == REG);
+    for (byte, register) in state.iter_mut().zip(registers) {
+        *byte = nets[usize::from(register.operands[0])];
     }
     (nets, verdict)
 }
@@ -91,10 +93,10 @@ unsafe extern "C" fn step<const RULE: usize>(
 ) -> u64 {
     let mut own = bytes(state, sl).to_vec();
     let answer = (LIBRARY.step)(image, il, state, sl, row, rl, nets, nl);
-    if refusal(answer) != 0 {
+    if number_of(answer) != 0 {
         return answer;
     }
-    let (filled, verdict) = cycle(RULES[RULE], bytes(image, il), &mut own, bytes(row, rl));
+    let (filled, verdict) = cycle(RULES[RULE], read(image, il), &mut own, bytes(row, rl));
     bytes_mut(state, sl).copy_from_slice(&own);
     bytes_mut(nets, nl).copy_from_slice(&filled);
     verdict
@@ -107,15 +109,17 @@ unsafe extern "C" fn run<const RULE: usize>(
 ) -> u64 {
     let mut own = bytes(state, sl).to_vec();
     let answer = (LIBRARY.run)(image, il, k, state, sl, rows, rl, outputs, ol);
-    if refusal(answer) != 0 {
+    if number_of(answer) != 0 {
         return answer;
     }
-    let (image, rows) = (bytes(image, il), bytes(rows, rl));
-    let (inputs, mut filled, mut first) = (size(image, 1), Vec::new(), k as u64 * 65_536 + CLEAR);
+    let (image, rows) = (read(image, il), bytes(rows, rl));
+    let inputs = image.sizes().inputs;
+    let (mut filled, mut first) = (Vec::new(), k as u64 * 65_536 + CLEAR);
     for number in 0..k {
         let row = &rows[number * inputs..(number + 1) * inputs];
         let (nets, verdict) = cycle(RULES[RULE], image, &mut own, row);
-        filled.extend((0..nets.len()).filter(|net| kind(image, *net) == 8).map(|net| nets[net]));
+        let bytes = image.kinds().iter().zip(nets);
+        filled.extend(bytes.filter(|(kind, _)| **kind == OUT).map(|(_, byte)| byte));
         if verdict != CLEAR && first % 65_536 == CLEAR {
             first = number as u64 * 65_536 + verdict;
         }

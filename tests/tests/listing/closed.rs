@@ -1,14 +1,15 @@
-//! Output that cannot be written: the program ends by itself, although its
-//! input goes on for ever.
+//! Output that cannot be written: the program ends, although its input goes on
+//! for ever. What failed is said on standard error, with the system's reason,
+//! unless the signal of a broken pipe ends the program first.
 
 use std::fs::OpenOptions;
 use std::io::{Read, Write};
-use std::process::{ChildStdin, ChildStdout, Command, Stdio};
+use std::process::{ChildStdin, ChildStdout, Command};
 use std::thread;
 
 use crate::counter::counter;
 use crate::folder::Folder;
-use crate::program::{command, command_without_signal, wait, SHORT};
+use crate::program::{command, command_without_signal, said, wait, SHORT};
 
 /// Gives rows until the program takes no more.
 fn give_for_ever(mut input: ChildStdin) {
@@ -24,10 +25,9 @@ fn read_some(output: Option<ChildStdout>, length: usize) {
 }
 
 /// Starts the program, reads so many bytes of its lines, closes the pipe, and
-/// waits for the end. What the program says about it and its exit status are of
-/// no account.
-fn ends_after(mut command: Command, length: usize) {
-    command.stderr(Stdio::null());
+/// waits for the end. The answer is what the program says on standard error; its
+/// exit status is of no account.
+fn ends_after(mut command: Command, length: usize) -> String {
     let mut child = command.spawn().expect("the program starts");
     let input = child.stdin.take().expect("a pipe for the rows");
     let output = child.stdout.take();
@@ -36,14 +36,16 @@ fn ends_after(mut command: Command, length: usize) {
     wait(&mut child, SHORT);
     reader.join().expect("the first lines are read");
     writer.join().expect("the rows are given");
+    said(&mut child)
 }
 
 #[test]
 fn a_closed_pipe_ends_the_program() {
     let folder = Folder::with(Some(&counter()));
     for length in [0, 1, 100_000] {
-        ends_after(command(&folder), length);
-        ends_after(command_without_signal(&folder), length);
+        assert_eq!(ends_after(command(&folder), length), "");
+        let said = ends_after(command_without_signal(&folder), length);
+        assert_eq!(said, "standard output: Broken pipe\n");
     }
 }
 
@@ -54,5 +56,6 @@ fn a_full_device_ends_the_program() {
     let full = OpenOptions::new().write(true).open("/dev/full");
     let mut command = command(&folder);
     command.stdout(full.expect("the full device is opened"));
-    ends_after(command, 0);
+    let said = ends_after(command, 0);
+    assert_eq!(said, "standard output: No space left on device\n");
 }

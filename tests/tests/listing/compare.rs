@@ -12,14 +12,23 @@ pub fn expected(image: Option<&[u8]>, rows: &[u8]) -> Vec<u8> {
     lines
 }
 
-/// What is wrong with the program's lines or its exit status, if anything is.
-/// After a normal end the status is 0; after a refusal it is any, but no
-/// signal.
+/// What the program says on standard error of a net.bin that is missing.
+const MISSING: &str = "net.bin: No such file or directory\n";
+
+/// What is wrong with the program's lines, with what it says on standard error or
+/// with its exit status, if anything is. It has nothing to say but that net.bin
+/// is missing. After a normal end the status is 0; after a refusal it is any, but
+/// no signal.
 pub fn difference(image: Option<&[u8]>, rows: &[u8], pieces: Pieces) -> Option<String> {
     let expected = expected(image, rows);
     let ended = list(image, rows, pieces);
     if ended.lines != expected {
         return Some(first_differing(&ended.lines, &expected));
+    }
+    let to_say = image.map_or(MISSING, |_| "");
+    if ended.said != to_say {
+        let said = ended.said;
+        return Some(format!("standard error has {said:?}, expected {to_say:?}"));
     }
     let last = expected.split(|byte| *byte == b'\n').rev().nth(1);
     let normal_end = last.map_or(false, |line| line.starts_with(b"end "));

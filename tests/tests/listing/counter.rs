@@ -2,8 +2,9 @@
 //! one after another.
 
 use reference::{and_byte, not_byte};
-use tests::nets::{encode, Net, AND, INPUT, NOT, OUT, REG};
 use tests::random::Random;
+use tracker::kinds::{AND, INPUT, NOT, OUT, REG};
+use tracker::{encode, Net};
 
 /// 0 INPUT; 1 REG(4, start 0); 2 NOT 1; 3 NOT 0; 4 AND(2, 3); 5 OUT 1,
 /// protected.

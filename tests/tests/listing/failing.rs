@@ -1,5 +1,5 @@
-//! Reads that fail. The reason is said on standard error; where the rows fail,
-//! the lines so far stay and there is no last line.
+//! Reads that fail. What failed is said on standard error, with the system's
+//! reason; where the rows fail, the lines so far stay and there is no last line.
 
 use std::fs::{self, File};
 use std::io::Write;
@@ -8,8 +8,9 @@ use std::os::unix::net::UnixStream;
 use std::process::Stdio;
 
 use crate::folder::Folder;
-use crate::program::{command, wait, Ended, SHORT};
-use tests::nets::{encode, Net, INPUT, OUT};
+use crate::program::{command, wait, SHORT};
+use tracker::kinds::{INPUT, OUT};
+use tracker::{encode, Net};
 
 /// Two inputs, of which the first is shown, protected.
 fn image() -> Vec<u8> {
@@ -21,17 +22,15 @@ fn image() -> Vec<u8> {
 }
 
 /// What the program prints with these rows, and what it says of its failure.
-fn list_from(folder: &Folder, rows: Stdio) -> (Ended, String) {
+fn list_from(folder: &Folder, rows: Stdio) -> (String, String) {
     let mut child = command(folder)
         .stdin(rows)
-        .stderr(Stdio::piped())
         .spawn()
         .expect("the program is started");
-    let status = wait(&mut child, SHORT);
+    wait(&mut child, SHORT);
     let output = child.wait_with_output().expect("its lines are read");
-    let said = String::from_utf8_lossy(&output.stderr).into_owned();
-    let lines = output.stdout;
-    (Ended { lines, status }, said)
+    let text = |bytes| String::from_utf8(bytes).expect("what it writes is text");
+    (text(output.stdout), text(output.stderr))
 }
 
 /// A stream that has these bytes and fails after them, since it would have to
@@ -54,9 +53,9 @@ fn a_read_of_rows_fails() {
     ];
     for (bytes, lines) in cases {
         let (_ours, rows) = failing(bytes);
-        let (ended, said) = list_from(&folder, rows);
-        assert_eq!(String::from_utf8_lossy(&ended.lines), lines);
-        assert!(said.starts_with("standard input: "), "{said}");
+        let (printed, said) = list_from(&folder, rows);
+        assert_eq!(printed, lines);
+        assert_eq!(said, "standard input: Resource temporarily unavailable\n");
     }
 }
 
@@ -64,9 +63,9 @@ fn a_read_of_rows_fails() {
 fn rows_from_a_folder() {
     let folder = Folder::with(Some(&image()));
     let rows = File::open(folder.path()).expect("the folder is opened");
-    let (ended, said) = list_from(&folder, Stdio::from(rows));
-    assert!(ended.lines.is_empty());
-    assert!(said.starts_with("standard input: "), "{said}");
+    let (printed, said) = list_from(&folder, Stdio::from(rows));
+    assert_eq!(printed, "");
+    assert_eq!(said, "standard input: Is a directory\n");
 }
 
 /// A folder of that name can be opened and not read, and counts as 0 bytes.
@@ -74,7 +73,7 @@ fn rows_from_a_folder() {
 fn a_folder_for_net_bin() {
     let folder = Folder::with(None);
     fs::create_dir(folder.path().join("net.bin")).expect("a folder is made");
-    let (ended, said) = list_from(&folder, Stdio::null());
-    assert_eq!(String::from_utf8_lossy(&ended.lines), "refused 1 0\n");
-    assert!(said.starts_with("net.bin: "), "{said}");
+    let (printed, said) = list_from(&folder, Stdio::null());
+    assert_eq!(printed, "refused 1 0\n");
+    assert_eq!(said, "net.bin: Is a directory\n");
 }

@@ -8,7 +8,7 @@ use std::thread;
 use crate::compare::first_differing;
 use crate::counter::{counter, Lines, Rows};
 use crate::folder::Folder;
-use crate::program::{command, wait, LONG};
+use crate::program::{command, said, wait, LONG};
 
 const CYCLES: u64 = 2_000_000;
 
@@ -77,6 +77,7 @@ fn two_million_cycles_in_little_memory() {
         Ok(memory) => memory,
         Err(text) => panic!("{text}"),
     };
+    assert_eq!(said(&mut child), "");
     assert!(status.success());
     println!("most memory after {LATE} cycles: {memory:?} kB");
     if cfg!(target_os = "linux") {

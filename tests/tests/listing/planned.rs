@@ -7,8 +7,9 @@ use crate::compare::{expected, same};
 use crate::counter::counter;
 use crate::program::{list, Pieces};
 use tests::bytes::tracked;
-use tests::nets::{encode, encode_with, Net, CONST, INPUT, MOST_NETS, OUT, REG};
 use tests::random::Random;
+use tracker::kinds::{CONST, INPUT, OUT, REG};
+use tracker::{encode, Net, MOST_NETS};
 
 const PIECES: [usize; 4] = [1, 7, 4095, 1 << 20];
 
@@ -19,6 +20,7 @@ fn the_counter_of_the_document() {
     for size in PIECES {
         let ended = list(Some(&counter()), &[2, 0, 1, 0], Pieces::of(size));
         assert_eq!(String::from_utf8_lossy(&ended.lines), lines);
+        assert_eq!(ended.said, "");
         assert!(ended.status.success());
     }
 }
@@ -36,8 +38,7 @@ fn missing_short_and_long_files() {
         same(Some(&long), &rows, Pieces::of(4095));
     }
     for size in [8193, 8194, 16_384, 65_535] {
-        let nets = vec![Net::new(CONST, 0, 0, 0); size];
-        let too_many = encode_with([size as u16, 0, 0, 0], &nets);
+        let too_many = encode(&vec![Net::new(CONST, 0, 0, 0); size]);
         same(Some(&too_many), &rows, Pieces::of(4095));
     }
 }
@@ -105,7 +106,7 @@ fn thousands_of_outputs_and_inputs() {
     outs[5000] = Net::new(OUT, 0, 1, 0);
     same(Some(&encode(&outs)), &tracked(random, 300), Pieces::of(7));
     let mut inputs = vec![Net::new(INPUT, 0, 0, 0); MOST_NETS];
-    inputs[MOST_NETS - 1] = Net::new(OUT, MOST_NETS - 2, 1, 0);
+    inputs[MOST_NETS - 1] = Net::new(OUT, MOST_NETS as u16 - 2, 1, 0);
     let rows = tracked(random, 50 * (MOST_NETS - 1));
     for size in [4095, 8191, 65_536] {
         same(Some(&encode(&inputs)), &rows, Pieces::of(size));

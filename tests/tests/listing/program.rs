@@ -31,7 +31,8 @@ pub fn path() -> PathBuf {
     }
 }
 
-/// The program in a folder, with pipes for its rows and its lines.
+/// The program in a folder, with pipes for its rows, its lines and what it says
+/// on standard error.
 pub fn command(folder: &Folder) -> Command {
     prepared(Command::new(path()), folder)
 }
@@ -49,7 +50,7 @@ fn prepared(mut command: Command, folder: &Folder) -> Command {
         .current_dir(folder.path())
         .stdin(Stdio::piped())
         .stdout(Stdio::piped())
-        .stderr(Stdio::null());
+        .stderr(Stdio::piped());
     command
 }
 
@@ -68,6 +69,16 @@ pub fn wait(child: &mut Child, limit: Duration) -> ExitStatus {
     let _ = child.kill();
     let _ = child.wait();
     panic!("the program has not ended by itself");
+}
+
+/// What a program that has ended said on standard error.
+pub fn said(child: &mut Child) -> String {
+    let mut error = child.stderr.take().expect("a pipe for what is said");
+    let mut text = String::new();
+    error
+        .read_to_string(&mut text)
+        .expect("what was said is read");
+    text
 }
 
 /// How the rows are given: so many bytes at a time, and a pause after each
@@ -100,9 +111,10 @@ fn give(mut input: ChildStdin, rows: &[u8], pieces: Pieces) {
     }
 }
 
-/// The program's lines and its exit status.
+/// The program's lines, what it said on standard error, and its exit status.
 pub struct Ended {
     pub lines: Vec<u8>,
+    pub said: String,
     pub status: ExitStatus,
 }
 
@@ -123,6 +135,7 @@ pub fn list(image: Option<&[u8]>, rows: &[u8], pieces: Pieces) -> Ended {
         let lines = reader.join().expect("the lines are read");
         Ended {
             lines: lines.expect("the lines are read"),
+            said: said(&mut child),
             status,
         }
     })

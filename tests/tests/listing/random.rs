@@ -8,9 +8,9 @@ use crate::program::Pieces;
 use tests::bytes::{spoil, tracked};
 use tests::faults::{damaged, Fault};
 use tests::netlists::mostly_small;
-use tests::nets::{encode, sizes_of, Net};
 use tests::printing::hex;
 use tests::random::Random;
+use tracker::{encode, Net, Sizes};
 
 const CASES: u64 = 400;
 
@@ -25,8 +25,7 @@ fn draw(seed: u64) -> Given {
     let random = &mut Random::of_case("listing", seed);
     let nets = mostly_small(random, 20);
     let image = draw_image(random, &nets);
-    let inputs = usize::from(sizes_of(&nets)[1]);
-    let rows = draw_rows(random, inputs);
+    let rows = draw_rows(random, Sizes::of(&nets).inputs);
     let pieces = Pieces {
         size: random.pick(&[1, 7, 4095, rows.len().max(1)]),
         pause: Duration::ZERO,
@@ -69,7 +68,7 @@ fn draw_rows(random: &mut Random, inputs: usize) -> Vec<u8> {
 fn report(seed: u64, text: &str) -> String {
     format!(
         "\nfamily listing, seed {seed}\n{text}\nrun it again: TRACKER_CASE=listing:{seed} \
-         cargo test --manifest-path tests/Cargo.toml one_case -- --nocapture\n"
+         cargo test --offline -p tests one_case -- --nocapture\n"
     )
 }
 

@@ -7,8 +7,9 @@ use std::thread;
 
 use crate::counter::counter;
 use crate::folder::Folder;
-use crate::program::{command, wait, SHORT};
-use tests::nets::{encode, Net, AND, INPUT, OUT};
+use crate::program::{command, said, wait, SHORT};
+use tracker::kinds::{AND, INPUT, OUT};
+use tracker::{encode, Net};
 
 /// The program, taking rows, and its lines as they come.
 struct Waiting {
@@ -24,11 +25,8 @@ impl Waiting {
         let output = child.stdout.take().expect("a pipe for the lines");
         let (sender, lines) = channel();
         thread::spawn(move || {
-            for line in BufReader::new(output).lines().map_while(Result::ok) {
-                if sender.send(line).is_err() {
-                    return;
-                }
-            }
+            let mut lines = BufReader::new(output).lines().map_while(Result::ok);
+            lines.try_for_each(|line| sender.send(line))
         });
         Waiting {
             child,
@@ -51,6 +49,8 @@ impl Waiting {
         })
     }
 
+    /// Ends the input. The answer is the last line, and nothing is said on
+    /// standard error.
     fn end(self) -> String {
         let Waiting {
             mut child,
@@ -60,6 +60,7 @@ impl Waiting {
         drop(input);
         let last = lines.recv_timeout(SHORT).expect("a last line");
         wait(&mut child, SHORT);
+        assert_eq!(said(&mut child), "");
         last
     }
 }

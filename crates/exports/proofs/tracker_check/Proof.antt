@@ -1,9 +1,9 @@
 -- `exports::tracker_check` meets its contract: the number of what checking answers, which fits.
 use mathlib.Core.Path.{ap, _∙_}
 use borrow.Author.Needs.{needs}
-use Rattle.exports.specs.Codes.{outcomeCode}
-use Rattle.exports.proofs.Given.{check-given}
-use Rattle.exports.proofs.Small.{outcome-fits}
+use Rattle.codes.specs.Codes.{outcomeCode}
+use Rattle.codes.proofs.Given.{check-given}
+use Rattle.codes.proofs.Small.{outcome-fits}
 use Rattle.exports.proofs.tracker_check.Statement.{statement}
 use Rattle.exports.proofs.tracker_check.Tie as tie
 

@@ -2,9 +2,9 @@
 use mathlib.Core.Path.{ap, _∙_}
 use borrow.Author.Needs.{needs}
 use Rattle.doubling.specs.Doubled.{Doubling}
-use Rattle.exports.specs.Codes.{outcomeCode}
-use Rattle.exports.proofs.Given.{doubled-given}
-use Rattle.exports.proofs.Small.{outcome-fits}
+use Rattle.codes.specs.Codes.{outcomeCode}
+use Rattle.codes.proofs.Given.{doubled-given}
+use Rattle.codes.proofs.Small.{outcome-fits}
 use Rattle.exports.proofs.tracker_double.Statement.{statement}
 use Rattle.exports.proofs.tracker_double.Tie as tie
 

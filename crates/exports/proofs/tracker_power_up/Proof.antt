@@ -1,10 +1,10 @@
 -- `exports::tracker_power_up` meets its contract: the number of what power-up answers, which fits, and the bytes that it leaves.
 use mathlib.Core.Path.{ap, _∙_}
 use borrow.Author.Needs.{needs}
-use Rattle.tracker.specs.Calls.{PoweredUp}
-use Rattle.exports.specs.Codes.{outcomeCode}
-use Rattle.exports.proofs.Given.{powered-up-given}
-use Rattle.exports.proofs.Small.{outcome-fits}
+use Rattle.cycle.specs.Calls.{PoweredUp}
+use Rattle.codes.specs.Codes.{outcomeCode}
+use Rattle.codes.proofs.Given.{powered-up-given}
+use Rattle.codes.proofs.Small.{outcome-fits}
 use Rattle.exports.proofs.tracker_power_up.Statement.{statement}
 use Rattle.exports.proofs.tracker_power_up.Tie as tie
 

@@ -1,9 +1,9 @@
 -- `exports::tracker_run` meets its contract: the number of the first flow or the refusal of a run, which fits, and the bytes that it leaves.
 use mathlib.Core.Path.{ap, _∙_}
 use borrow.Author.Needs.{needs}
-use Rattle.tracker.specs.Calls.{Ran}
-use Rattle.exports.specs.Codes.{firstFlowCode, answerCode}
-use Rattle.exports.proofs.Small.{answer-fits, run-answered, among-small}
+use Rattle.cycle.specs.Calls.{Ran}
+use Rattle.codes.specs.Codes.{firstFlowCode, answerCode}
+use Rattle.codes.proofs.Small.{answer-fits, run-answered, among-small}
 use Rattle.exports.proofs.tracker_run.Statement.{statement}
 use Rattle.exports.proofs.tracker_run.Tie as tie
 

@@ -2,9 +2,9 @@
 use mathlib.Core.Path.{ap, _∙_}
 use native.Mathlib.Omega.{arith}
 use borrow.Author.Needs.{needs}
-use Rattle.tracker.specs.Calls.{Stepped}
-use Rattle.exports.specs.Codes.{verdictCode, answerCode}
-use Rattle.exports.proofs.Small.{answer-fits, step-answered, naming-small}
+use Rattle.cycle.specs.Calls.{Stepped}
+use Rattle.codes.specs.Codes.{verdictCode, answerCode}
+use Rattle.codes.proofs.Small.{answer-fits, step-answered, naming-small}
 use Rattle.exports.proofs.tracker_step.Statement.{statement}
 use Rattle.exports.proofs.tracker_step.Tie as tie
 

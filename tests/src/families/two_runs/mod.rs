@@ -14,7 +14,7 @@ use crate::doubled::{double, Doubled};
 use crate::drawing;
 use crate::failure::{Failure, Outcome};
 use crate::netlists;
-use crate::nets::encode;
+use tracker::encode;
 
 /// One of the two lists: its state, and its state on the doubled netlist.
 pub struct List {

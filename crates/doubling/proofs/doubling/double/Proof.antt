@@ -5,10 +5,12 @@ use mathlib.Core.Path.{_≡_, ap, sym, _∙_}
 use mathlib.Core.Option.{none}
 use lib.ListN.{getD}
 use borrow.Author.Needs.{needs}
-use Rattle.netlist.specs.declared.image.Sizes.{Sizes}
-use Rattle.netlist.specs.Image.{netsOf}
-use Rattle.netlist.specs.Check.{refusalIn, checkRefusal, badLength}
-use Rattle.netlist.proofs.Checked.{Checked, check-none, length-nets}
+use Rattle.image.specs.declared.image.Sizes.{Sizes}
+use Rattle.image.specs.Image.{netsOf}
+use Rattle.image.proofs.Nets.{length-nets}
+use Rattle.refusals.specs.Refusals.{refusalIn, badLength}
+use Rattle.checking.specs.Check.{checkRefusal}
+use Rattle.checking.proofs.Checked.{Checked, check-none}
 use Rattle.doubling.specs.Doubled.{doubledSize, doubledImage, doubleRefusal}
 use Rattle.doubling.proofs.Positions.{value-end}
 use Rattle.doubling.proofs.Sums.{starts-fit}

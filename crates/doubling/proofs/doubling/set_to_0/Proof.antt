@@ -4,7 +4,7 @@ use native.Mathlib.Omega.{arith}
 use mathlib.Core.Path.{_≡_, _∙_}
 use lib.ListN.{length, replicate, length-replicate}
 use borrow.Author.Needs.{needs}
-use Rattle.tracker.proofs.Filling.{Filled, fill-begins, fill-goes-on, fill-length, fill-ends}
+use Rattle.cycle.proofs.Filling.{Filled, fill-begins, fill-goes-on, fill-length, fill-ends}
 use Rattle.doubling.proofs.doubling.set_to_0.Statement.{statement}
 use Rattle.doubling.proofs.doubling.set_to_0.Tie as tie
 

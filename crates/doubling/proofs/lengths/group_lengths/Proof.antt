@@ -1,6 +1,6 @@
 -- `doubling::lengths::group_lengths` meets its contract: the table is the definition's list.
 use mathlib.Core.Path.{refl}
-use Rattle.doubling.specs.Doubled.{groupLengths}
+use Rattle.groups.specs.Groups.{groupLengths}
 use Rattle.doubling.proofs.lengths.group_lengths.Statement.{statement}
 use Rattle.doubling.proofs.lengths.group_lengths.Tie as tie
 

@@ -4,9 +4,12 @@ use native.Mathlib.Omega.{arith}
 use mathlib.Core.Path.{_≡_, refl, sym, _∙_}
 use lib.ListN.{length, getD, length-set}
 use borrow.Author.Needs.{needs}
-use Rattle.netlist.specs.Image.{kindAt, netAt, netsOf}
-use Rattle.netlist.proofs.Checked.{kind-most, Checked, check-none, net-passes, length-nets}
-use Rattle.doubling.specs.Doubled.{groupLength, doubledSize, valueNet}
+use Rattle.image.specs.Image.{kindAt, netAt, netsOf}
+use Rattle.image.proofs.Nets.{length-nets}
+use Rattle.net_checking.proofs.Passes.{kind-most}
+use Rattle.checking.proofs.Checked.{Checked, check-none, net-passes}
+use Rattle.groups.specs.Groups.{groupLength}
+use Rattle.doubling.specs.Doubled.{doubledSize, valueNet}
 use Rattle.doubling.proofs.Positions.{value-end}
 use Rattle.doubling.proofs.Sums.{Summed, start-zero, summed-begins, summed-next, next-start, starts-fit}
 use Rattle.doubling.proofs.lengths.starts_of.Statement.{statement}

@@ -5,10 +5,11 @@ use mathlib.Core.Path.{_≡_, refl, ap₂, _∙_}
 use mathlib.Core.List.{List}
 use lib.ListN.{getD}
 use borrow.Author.Needs.{needs}
-use Rattle.netlist.specs.declared.image.Net.{Net}
-use Rattle.netlist.specs.Image.{sizesOf, netAt, netsOf}
-use Rattle.netlist.specs.Writing.{putNets}
-use Rattle.netlist.proofs.Checked.{Passes, kind-most, Small, operands-small, Checked, check-none, net-passes}
+use Rattle.image.specs.declared.image.Net.{Net}
+use Rattle.image.specs.Image.{sizesOf, netAt, netsOf}
+use Rattle.image.specs.Writing.{putNets}
+use Rattle.net_checking.proofs.Passes.{Passes, kind-most, Small, operands-small}
+use Rattle.checking.proofs.Checked.{Checked, check-none, net-passes}
 use Rattle.doubling.specs.Doubled.{valueNet, markNet}
 use Rattle.doubling.proofs.Sums.{start-positive, pair-is, group-pinned}
 use Rattle.doubling.proofs.writing.put_group_at.Statement.{statement}

@@ -4,10 +4,10 @@ use native.Mathlib.Omega.{arith}
 use mathlib.Core.Path.{_≡_, sym, _∙_}
 use lib.ListN.{length}
 use borrow.Author.Needs.{needs}
-use Rattle.netlist.specs.Image.{netsOf}
-use Rattle.netlist.specs.Writing.{putNets}
-use Rattle.netlist.proofs.Nets.{netsLeft, nets-left, nets-done}
-use Rattle.netlist.proofs.Checked.{Checked, check-none}
+use Rattle.image.specs.Image.{netsOf}
+use Rattle.image.specs.Writing.{putNets}
+use Rattle.image.proofs.Nets.{netsLeft, nets-left, nets-done}
+use Rattle.checking.proofs.Checked.{Checked, check-none}
 use Rattle.doubling.specs.Doubled.{groupsFrom, valueNet, doubledNets}
 use Rattle.doubling.proofs.Sums.{start-zero}
 use Rattle.doubling.proofs.Laying.{one-group, group-ends}

@@ -4,8 +4,8 @@ use native.Mathlib.Omega.{arith}
 use mathlib.Core.Path.{ap, _∙_}
 use borrow.Author.Needs.{needs}
 use Rattle.gates.specs.Kinds.{INPUT, REG, OUT}
-use Rattle.netlist.specs.declared.image.Sizes.{Sizes}
-use Rattle.netlist.proofs.Checked.{Checked, check-none, few-of}
+use Rattle.image.specs.declared.image.Sizes.{Sizes}
+use Rattle.checking.proofs.Checked.{Checked, check-none, few-of}
 use Rattle.doubling.proofs.Laying.{image-laid}
 use Rattle.doubling.proofs.writing.write_image.Statement.{statement}
 use Rattle.doubling.proofs.writing.write_image.Tie as tie

@@ -4,11 +4,11 @@ use native.Mathlib.Omega.{arith}
 use mathlib.Core.Path.{_≡_, sym, _∙_}
 use lib.ListN.{length}
 use borrow.Author.Needs.{needs}
-use Rattle.tracker.specs.Answers.{verdictIn}
+use Rattle.cycle.specs.Answers.{verdictIn}
+use Rattle.text.proofs.Decimal.{decimal-most}
+use Rattle.text.proofs.Putting.{line-fits, line-put, line-left}
 use Rattle.listing_text.specs.Lines.{cycleLine}
-use Rattle.listing_text.proofs.Decimal.{decimal-most}
 use Rattle.listing_text.proofs.Lengths.{outputs-most, verdict-most, cycle-length}
-use Rattle.listing_text.proofs.Putting.{line-fits, line-put, line-left}
 use Rattle.listing_text.proofs.lines.cycle_line.Statement.{statement}
 use Rattle.listing_text.proofs.lines.cycle_line.Tie as tie
 

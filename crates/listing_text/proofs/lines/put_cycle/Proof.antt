@@ -1,9 +1,11 @@
 -- `listing_text::lines::put_cycle` meets its contract: the cycle, the outputs and the verdict, one space between, and the end of the line.
 use mathlib.Core.List.{_++_}
 use borrow.Author.Needs.{needs}
-use Rattle.tracker.specs.Answers.{verdictIn}
-use Rattle.listing_text.specs.Lines.{space, newline, decimal, outputDigits, verdictText, cycleLine}
-use Rattle.listing_text.proofs.Putting.{Puts, whole, but, puts-none, puts-then, puts-room}
+use Rattle.cycle.specs.Answers.{verdictIn}
+use Rattle.text.specs.Ascii.{space, newline}
+use Rattle.text.specs.Decimal.{decimal}
+use Rattle.text.proofs.Putting.{Puts, whole, but, puts-none, puts-then, puts-room}
+use Rattle.listing_text.specs.Lines.{outputDigits, verdictText, cycleLine}
 use Rattle.listing_text.proofs.lines.put_cycle.Statement.{statement}
 use Rattle.listing_text.proofs.lines.put_cycle.Tie as tie
 

@@ -1,7 +1,9 @@
 -- `listing_text::lines::put_end` meets its contract: the word with its number, and the end of the line.
 use borrow.Author.Needs.{needs}
-use Rattle.listing_text.specs.Lines.{newline, numbered, endWord, endLine}
-use Rattle.listing_text.proofs.Putting.{Puts, whole, but, puts-none, puts-then, puts-room}
+use Rattle.text.specs.Ascii.{newline}
+use Rattle.text.specs.Decimal.{numbered}
+use Rattle.text.proofs.Putting.{Puts, whole, but, puts-none, puts-then, puts-room}
+use Rattle.listing_text.specs.Lines.{endWord, endLine}
 use Rattle.listing_text.proofs.lines.put_end.Statement.{statement}
 use Rattle.listing_text.proofs.lines.put_end.Tie as tie
 

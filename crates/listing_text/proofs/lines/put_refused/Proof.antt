@@ -1,8 +1,10 @@
 -- `listing_text::lines::put_refused` meets its contract: the word with its number, the place, and the end of the line.
 use mathlib.Core.List.{_++_}
 use borrow.Author.Needs.{needs}
-use Rattle.listing_text.specs.Lines.{space, newline, decimal, numbered, refusedWord, refusedLine}
-use Rattle.listing_text.proofs.Putting.{Puts, whole, but, puts-none, puts-then, puts-room}
+use Rattle.text.specs.Ascii.{space, newline}
+use Rattle.text.specs.Decimal.{decimal, numbered}
+use Rattle.text.proofs.Putting.{Puts, whole, but, puts-none, puts-then, puts-room}
+use Rattle.listing_text.specs.Lines.{refusedWord, refusedLine}
 use Rattle.listing_text.proofs.lines.put_refused.Statement.{statement}
 use Rattle.listing_text.proofs.lines.put_refused.Tie as tie
 

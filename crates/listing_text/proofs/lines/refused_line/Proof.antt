@@ -4,10 +4,10 @@ use native.Mathlib.Omega.{arith}
 use mathlib.Core.Path.{_≡_, sym, _∙_}
 use lib.ListN.{length}
 use borrow.Author.Needs.{needs}
+use Rattle.text.proofs.Decimal.{decimal-most}
+use Rattle.text.proofs.Putting.{line-fits, line-put, line-left}
 use Rattle.listing_text.specs.Lines.{refusedLine}
-use Rattle.listing_text.proofs.Decimal.{decimal-most}
 use Rattle.listing_text.proofs.Lengths.{refused-length}
-use Rattle.listing_text.proofs.Putting.{line-fits, line-put, line-left}
 use Rattle.listing_text.proofs.lines.refused_line.Statement.{statement}
 use Rattle.listing_text.proofs.lines.refused_line.Tie as tie
 

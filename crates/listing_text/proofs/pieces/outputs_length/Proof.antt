@@ -1,6 +1,6 @@
 -- `listing_text::pieces::outputs_length` meets its contract.
 use lib.ListN.{length-map}
-use Rattle.listing_text.proofs.Putting.{no-outputs, some-outputs}
+use Rattle.listing_text.proofs.Outputs.{no-outputs, some-outputs}
 use Rattle.listing_text.proofs.pieces.outputs_length.Statement.{statement}
 use Rattle.listing_text.proofs.pieces.outputs_length.Tie as tie
 

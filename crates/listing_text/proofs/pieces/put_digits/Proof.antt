@@ -2,8 +2,8 @@
 use Prim.Native.Nat.{_-_}
 use lib.ListN.{length}
 use borrow.Author.Needs.{needs}
+use Rattle.text.proofs.Putting.{Putting, put-begins, put-goes-on, put-ends}
 use Rattle.listing_text.specs.Lines.{digit}
-use Rattle.listing_text.proofs.Putting.{Putting, put-begins, put-goes-on, put-ends}
 use Rattle.listing_text.proofs.pieces.put_digits.Statement.{statement}
 use Rattle.listing_text.proofs.pieces.put_digits.Tie as tie
 

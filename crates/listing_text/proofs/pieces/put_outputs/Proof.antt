@@ -1,7 +1,7 @@
 -- `listing_text::pieces::put_outputs` meets its contract: a - where there is no output, and else the digits.
 use lib.ListN.{length-map}
 use borrow.Author.Needs.{needs}
-use Rattle.listing_text.proofs.Putting.{no-outputs, some-outputs}
+use Rattle.listing_text.proofs.Outputs.{no-outputs, some-outputs}
 use Rattle.listing_text.proofs.pieces.put_outputs.Statement.{statement}
 use Rattle.listing_text.proofs.pieces.put_outputs.Tie as tie
 

@@ -3,7 +3,7 @@ use Prim.Native.Nat.{_+_, _≤_}
 use mathlib.Core.Path.{subst}
 use lib.ListN.{length}
 use borrow.Author.Needs.{needs}
-use Rattle.tracker.specs.Answers.{verdictIn}
+use Rattle.cycle.specs.Answers.{verdictIn}
 use Rattle.listing_text.specs.Lines.{verdictText}
 use Rattle.listing_text.proofs.pieces.put_verdict.Statement.{statement}
 use Rattle.listing_text.proofs.pieces.put_verdict.Tie as tie

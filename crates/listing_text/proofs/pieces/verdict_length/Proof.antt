@@ -1,7 +1,7 @@
 -- `listing_text::pieces::verdict_length` meets its contract.
 use native.Mathlib.Omega.{arith}
 use borrow.Author.Needs.{needs}
-use Rattle.listing_text.proofs.Decimal.{decimal-most}
+use Rattle.text.proofs.Decimal.{decimal-most}
 use Rattle.listing_text.proofs.pieces.verdict_length.Statement.{statement}
 use Rattle.listing_text.proofs.pieces.verdict_length.Tie as tie
 

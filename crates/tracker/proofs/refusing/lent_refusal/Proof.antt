@@ -1,10 +1,11 @@
 -- `tracker::refusing::lent_refusal` meets its contract: the state is tried before the rows, and the buffer last.
 use mathlib.Core.Path.{_≡_, sym, ap, _∙_}
+use lib.Dec.{ltb}
 use borrow.Author.Needs.{needs}
 use borrow.Author.Tests.{eq-eqb, ne-eqb}
-use Rattle.netlist.specs.Check.{refusalIn, _then_, badByte, badLength}
-use Rattle.netlist.proofs.Refusals.{then-assoc}
-use Rattle.tracker.specs.Calls.{lentRefusal}
+use Rattle.refusals.specs.Refusals.{refusalIn, _then_, plainBytes, badByte, badLength}
+use Rattle.refusals.proofs.Refusals.{then-assoc}
+use Rattle.cycle.specs.Calls.{lentRefusal}
 use Rattle.tracker.proofs.refusing.lent_refusal.Statement.{statement}
 use Rattle.tracker.proofs.refusing.lent_refusal.Tie as tie
 
@@ -14,12 +15,12 @@ returns c = let known = c .before in rw (then-assoc, sym (known .before .before 
 -- past the state, the rows are tried, and then the buffer
 rows-left : (c : tie.After-enum-told)
     → let args = c .before .before .before .before .before .before .args in
-    lentRefusal (args .registers) (args .inputs) (args .filled) (args .state .now) (args .rows .now) (args .buffer .now)
-    ≡ ((badLength 12 (args .inputs) (args .rows .now) then badByte 13 0 (args .rows .now)) then badLength 14 (args .filled) (args .buffer .now))
+    lentRefusal plainBytes (args .registers) (args .inputs) (args .filled) (args .state .now) (args .rows .now) (args .buffer .now)
+    ≡ ((badLength 12 (args .inputs) (args .rows .now) then badByte (ltb 3) 13 0 (args .rows .now)) then badLength 14 (args .filled) (args .buffer .now))
 rows-left c =
     let args = c .before .before .before .before .before .before .args in
     rw (then-assoc, sym (c .before .before .codes-refusal .ensures) ∙ ap refusalIn (c .enum-told .given .1))
-    (then-assoc (badLength 12 (args .inputs) (args .rows .now)) (badByte 13 0 (args .rows .now)) _)
+    (then-assoc (badLength 12 (args .inputs) (args .rows .now)) (badByte (ltb 3) 13 0 (args .rows .now)) _)
 
 returns-2 : tie.Need-returns-2
 returns-2 c =
@@ -30,7 +31,7 @@ returns-2 c =
 -- past the rows
 buffer-left : (c : tie.After-enum-told2)
     → let args = c .before .before .before .before .before .before .before .before .before .args in
-    lentRefusal (args .registers) (args .inputs) (args .filled) (args .state .now) (args .rows .now) (args .buffer .now) ≡ badLength 14 (args .filled) (args .buffer .now)
+    lentRefusal plainBytes (args .registers) (args .inputs) (args .filled) (args .state .now) (args .rows .now) (args .buffer .now) ≡ badLength 14 (args .filled) (args .buffer .now)
 buffer-left c =
     let rows = c .before .before in
     rows-left (rows .before) ∙ rw (sym (rows .codes-refusal2 .ensures) ∙ ap refusalIn (c .enum-told2 .given .1))

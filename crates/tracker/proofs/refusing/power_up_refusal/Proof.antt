@@ -4,9 +4,10 @@ use mathlib.Core.Option.{none}
 use native.Mathlib.Omega.{arith}
 use borrow.Author.Needs.{needs}
 use borrow.Author.Tests.{eq-eqb, ne-eqb}
-use Rattle.netlist.specs.Check.{refusalIn, checkRefusal, badLength}
-use Rattle.netlist.proofs.Checked.{check-none}
-use Rattle.tracker.specs.Calls.{powerUpRefusal}
+use Rattle.refusals.specs.Refusals.{refusalIn, badLength}
+use Rattle.checking.specs.Check.{checkRefusal}
+use Rattle.checking.proofs.Checked.{check-none}
+use Rattle.cycle.specs.Calls.{powerUpRefusal}
 use Rattle.tracker.proofs.refusing.power_up_refusal.Statement.{statement}
 use Rattle.tracker.proofs.refusing.power_up_refusal.Tie as tie
 
@@ -26,14 +27,16 @@ sizes-of-requires c κs = let image = check-none _ .0 (accepted c) in omega (ari
 returns-2 : tie.Need-returns-2
 unfolding powerUpRefusal badLength
 returns-2 c =
-    let sized = c .before .before .before in
-    rw (accepted (sized .before), ← (sized .sizes-of .ensures), ne-eqb _ _ (c .before .if1 .taken)) (c .refused .ensures)
+    let long = c .before .before in
+    let sized = long .before in
+    rw (accepted (sized .before), ← (sized .sizes-of .ensures), ← (long .state-length .ensures), ne-eqb _ _ (c .before .if1 .taken)) (c .refused .ensures)
 
 returns-3 : tie.Need-returns-3
 unfolding powerUpRefusal badLength
 returns-3 c =
-    let sized = c .before .before in
-    rw (accepted (sized .before), ← (sized .sizes-of .ensures), eq-eqb _ _ (c .if1 .left))
+    let long = c .before in
+    let sized = long .before in
+    rw (accepted (sized .before), ← (sized .sizes-of .ensures), ← (long .state-length .ensures), eq-eqb _ _ (c .if1 .left))
 
 pub power-up-refusal-spec : {M : Type 1} → statement M
 power-up-refusal-spec =
@@ -44,6 +47,7 @@ power-up-refusal-spec =
     returns
     (λ c. search needs)
     sizes-of-requires
+    (λ c κs. search needs)
     (λ c κs. search needs)
     returns-2
     returns-3)

@@ -6,10 +6,11 @@ use native.Mathlib.Omega.{arith}
 use borrow.Author.Needs.{needs}
 use borrow.Author.Tests.{lt-ltb, le-ltb}
 use Rattle.gates.specs.Kinds.{INPUT, OUT}
-use Rattle.netlist.specs.Check.{refusalIn, checkRefusal}
-use Rattle.netlist.proofs.Checked.{check-none, few-of}
-use Rattle.tracker.specs.Calls.{runRefusal}
-use Rattle.tracker.proofs.Runs.{product-fits}
+use Rattle.refusals.specs.Refusals.{refusalIn}
+use Rattle.checking.specs.Check.{checkRefusal}
+use Rattle.checking.proofs.Checked.{check-none, few-of}
+use Rattle.cycle.specs.Calls.{runRefusal}
+use Rattle.cycle.proofs.Runs.{product-fits}
 use Rattle.tracker.proofs.refusing.run_refusal.Statement.{statement}
 use Rattle.tracker.proofs.refusing.run_refusal.Tie as tie
 
@@ -39,21 +40,23 @@ sizes-of-requires c κs = let image = check-none _ .0 (accepted (c .before)) in 
 
 mul-lent-refusal : tie.Need-mul-lent-refusal
 mul-lent-refusal c =
-    let sized = c .before in
+    let sized = c .before .before in
     let image = check-none _ .0 (accepted (sized .before .before)) in
     rw (sized .sizes-of .ensures) (record { fits = product-fits (few (sized .before)) (omega (arith, image .inputs, few-of image INPUT)) })
 
 mul-lent-refusal-2 : tie.Need-mul-lent-refusal-2
 mul-lent-refusal-2 c =
-    let sized = c .before .before in
+    let sized = c .before .before .before in
     let image = check-none _ .0 (accepted (sized .before .before)) in
     rw (sized .sizes-of .ensures) (record { fits = product-fits (few (sized .before)) (omega (arith, image .outputs, few-of image OUT)) })
 
 returns-3 : tie.Need-returns-3
 unfolding runRefusal
 returns-3 c =
-    let sized = c .before .before .before in
-    rw (accepted (sized .before .before), le-ltb 4096 _ (few (sized .before))) (rw (sized .sizes-of .ensures) at (c .lent-refusal .ensures))
+    let long = c .before .before .before in
+    let sized = long .before in
+    rw (accepted (sized .before .before), le-ltb 4096 _ (few (sized .before)))
+    (rw (long .state-length .ensures, sized .sizes-of .ensures) at (c .lent-refusal .ensures))
 
 pub run-refusal-spec : {M : Type 1} → statement M
 run-refusal-spec =
@@ -66,6 +69,7 @@ run-refusal-spec =
     (λ c κs. search needs)
     returns-2
     sizes-of-requires
+    (λ c κs. search needs)
     mul-lent-refusal
     mul-lent-refusal-2
     (λ c κs. search needs)

@@ -3,9 +3,10 @@ use mathlib.Core.Path.{_≡_, sym, ap, _∙_}
 use mathlib.Core.Option.{none}
 use native.Mathlib.Omega.{arith}
 use borrow.Author.Needs.{needs}
-use Rattle.netlist.specs.Check.{refusalIn, checkRefusal}
-use Rattle.netlist.proofs.Checked.{check-none}
-use Rattle.tracker.specs.Calls.{stepRefusal}
+use Rattle.refusals.specs.Refusals.{refusalIn}
+use Rattle.checking.specs.Check.{checkRefusal}
+use Rattle.checking.proofs.Checked.{check-none}
+use Rattle.cycle.specs.Calls.{stepRefusal}
 use Rattle.tracker.proofs.refusing.step_refusal.Statement.{statement}
 use Rattle.tracker.proofs.refusing.step_refusal.Tie as tie
 
@@ -25,8 +26,9 @@ sizes-of-requires c κs = let image = check-none _ .0 (accepted c) in omega (ari
 returns-2 : tie.Need-returns-2
 unfolding stepRefusal
 returns-2 c =
-    let sized = c .before in
-    rw (accepted (sized .before)) (rw (sized .sizes-of .ensures) at (c .lent-refusal .ensures))
+    let long = c .before in
+    let sized = long .before in
+    rw (accepted (sized .before)) (rw (long .state-length .ensures, sized .sizes-of .ensures) at (c .lent-refusal .ensures))
 
 pub step-refusal-spec : {M : Type 1} → statement M
 step-refusal-spec =
@@ -37,5 +39,6 @@ step-refusal-spec =
     returns
     (λ c. search needs)
     sizes-of-requires
+    (λ c κs. search needs)
     (λ c κs. search needs)
     returns-2)

@@ -1,8 +1,8 @@
 -- `tracker::running::run` meets its contract: a refusal leaves the state and the outputs, and else the cycles are run.
 use mathlib.Core.Path.{sym, ap, _∙_}
 use borrow.Author.Needs.{needs}
-use Rattle.netlist.specs.Check.{refusalIn}
-use Rattle.tracker.proofs.Calls.{run-refused}
+use Rattle.refusals.specs.Refusals.{refusalIn}
+use Rattle.cycle.proofs.Calls.{run-refused}
 use Rattle.tracker.proofs.running.run.Statement.{statement}
 use Rattle.tracker.proofs.running.run.Tie as tie
 

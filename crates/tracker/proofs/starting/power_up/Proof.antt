@@ -3,11 +3,11 @@ use mathlib.Core.Path.{_≡_, sym, ap, _∙_}
 use mathlib.Core.Option.{none}
 use native.Mathlib.Omega.{arith}
 use borrow.Author.Needs.{needs}
-use Rattle.netlist.specs.declared.image.Sizes.{Sizes}
-use Rattle.netlist.specs.Check.{refusalIn}
-use Rattle.netlist.proofs.Checked.{check-none}
-use Rattle.tracker.specs.Calls.{powerUpRefusal}
-use Rattle.tracker.proofs.Calls.{power-up-accepted, power-up-refused, power-up-none}
+use Rattle.image.specs.declared.image.Sizes.{Sizes}
+use Rattle.refusals.specs.Refusals.{refusalIn}
+use Rattle.checking.proofs.Checked.{check-none}
+use Rattle.cycle.specs.Calls.{powerUpRefusal}
+use Rattle.cycle.proofs.Calls.{power-up-accepted, power-up-refused, power-up-none}
 use Rattle.tracker.proofs.starting.power_up.Statement.{statement}
 use Rattle.tracker.proofs.starting.power_up.Tie as tie
 

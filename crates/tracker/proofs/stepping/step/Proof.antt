@@ -4,13 +4,13 @@ use mathlib.Core.Option.{none}
 use lib.ListN.{length}
 use native.Mathlib.Omega.{arith}
 use borrow.Author.Needs.{needs}
-use Rattle.netlist.specs.declared.image.Sizes.{Sizes}
-use Rattle.netlist.specs.Image.{sizesOf}
-use Rattle.netlist.specs.Check.{refusalIn}
-use Rattle.netlist.proofs.Checked.{check-none}
-use Rattle.tracker.specs.Cycle.{cycleOf}
-use Rattle.tracker.specs.Calls.{stepRefusal, asStep}
-use Rattle.tracker.proofs.Calls.{Ready, step-accepted, step-refused, step-none}
+use Rattle.image.specs.declared.image.Sizes.{Sizes}
+use Rattle.image.specs.Image.{sizesOf}
+use Rattle.refusals.specs.Refusals.{refusalIn}
+use Rattle.checking.proofs.Checked.{check-none}
+use Rattle.cycle.specs.Cycle.{cycleOf}
+use Rattle.cycle.specs.Calls.{stepRefusal, asStep}
+use Rattle.cycle.proofs.Calls.{Ready, step-accepted, step-refused, step-none}
 use Rattle.tracker.proofs.stepping.step.Statement.{statement}
 use Rattle.tracker.proofs.stepping.step.Tie as tie
 

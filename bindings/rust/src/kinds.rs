@@ -1,0 +1,23 @@
+//! The kinds of nets, as an image holds them, and the operands of each. An
+//! operand that a kind does not list is 0.
+
+/// A constant. Operand a is its value, 0 or 1.
+pub const CONST: u8 = 0;
+/// An input, whose byte is one of the row.
+pub const INPUT: u8 = 1;
+/// A register. Operand a is the net that it takes at the clock, any net of the
+/// netlist; b is its start, 0, 1, or 2 for none given.
+pub const REG: u8 = 2;
+/// NOT of net a.
+pub const NOT: u8 = 3;
+/// AND of the nets a and b.
+pub const AND: u8 = 4;
+/// OR of the nets a and b.
+pub const OR: u8 = 5;
+/// XOR of the nets a and b.
+pub const XOR: u8 = 6;
+/// Net a if net c is 0, and net b if it is 1.
+pub const MUX: u8 = 7;
+/// An output, which passes net a on. Operand b is its policy, 0 for free and 1
+/// for protected.
+pub const OUT: u8 = 8;

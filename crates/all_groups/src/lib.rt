@@ -1,0 +1,4 @@
+// The group of any net.
+mod group;
+
+pub use group::put_group;

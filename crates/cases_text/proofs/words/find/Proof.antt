@@ -1,0 +1,29 @@
+-- `cases_text::words::find` is safe and ends.
+use Prim.Native.Nat.{_-_}
+use lib.ListN.{length}
+use borrow.Author.Needs.{needs}
+use Rattle.cases_text.proofs.words.find.Statement.{statement}
+use Rattle.cases_text.proofs.words.find.Tie as tie
+
+abbrev Inv-loop : tie.InvT-loop
+Inv-loop t p mark letter i₀ i = Unit {0}
+
+abbrev μ-loop : tie.MeasureT-loop
+μ-loop t p mark letter i₀ i = length t - i
+
+pub find-spec : {M : Type 1} → statement M
+find-spec =
+    tie.close
+    (tie.spec
+    Inv-loop
+    μ-loop
+    (λ c. search needs)
+    (λ c. search needs)
+    (λ c. search needs)
+    (λ c κs. search needs)
+    (λ c κs. search needs)
+    (λ c. search needs)
+    (λ c. search needs)
+    (λ c. search needs)
+    (λ c. search needs)
+    (λ c. search needs))

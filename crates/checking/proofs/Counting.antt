@@ -1,0 +1,59 @@
+-- The nets of each kind, counted: one more net raises one of the nine counts.
+use Prim.Native.Nat.{ℕ, zero, suc, _+_, _<_}
+use mathlib.Core.Path.{_≡_, refl, sym, ap, _∙_}
+use mathlib.Core.List.{List, [], _∷_, _++_}
+use mathlib.Core.Bool.{Bool, true, false, cond}
+use native.Mathlib.Omega.{arith}
+use lib.Dec.{eqb}
+use lib.ListN.{length, getD, set, length-set}
+use lib.Seq.{ext-getD, getD-set-same, getD-set-other}
+use borrow.Author.Tests.{eqb-true, eqb-false}
+use Rattle.image.specs.declared.image.Net.{Net}
+use Rattle.image.specs.Image.{count}
+use Rattle.checking.specs.Counts.{kindCounts}
+
+-- there are nine counts, and at place k stands the number of nets of kind k
+pub counts-length : (xs : List Net) → length (kindCounts xs) ≡ 9
+unfolding kindCounts
+counts-length xs = refl
+
+pub count-at : (k : ℕ) (xs : List Net) → k < 9 → getD (kindCounts xs) k 0 ≡ count k xs
+unfolding kindCounts
+count-at zero xs h = refl
+count-at (suc zero) xs h = refl
+count-at (suc (suc zero)) xs h = refl
+count-at (suc (suc (suc zero))) xs h = refl
+count-at (suc (suc (suc (suc zero)))) xs h = refl
+count-at (suc (suc (suc (suc (suc zero))))) xs h = refl
+count-at (suc (suc (suc (suc (suc (suc zero)))))) xs h = refl
+count-at (suc (suc (suc (suc (suc (suc (suc zero))))))) xs h = refl
+count-at (suc (suc (suc (suc (suc (suc (suc (suc zero)))))))) xs h = refl
+count-at (suc (suc (suc (suc (suc (suc (suc (suc (suc k))))))))) xs h = absurd (omega arith)
+
+-- counts with one place raised
+abbrev pub raised : List ℕ → (k : ℕ) → List ℕ
+raised counts k = set counts k (getD counts k 0 + 1)
+
+-- the nets of one kind, with one more net
+count-more : (k : ℕ) (xs : List Net) (x : Net) → count k (xs ++ (x ∷ [])) ≡ count k xs + cond (eqb (x .kind) k) 1 0
+unfolding count
+count-more k [] x = omega arith
+count-more k (y ∷ xs) x = omega (arith, count-more k xs x)
+
+-- with one more net, the place of its kind is raised
+module _ (xs : List Net) (x : Net) (h : x .kind < 9) where
+  raised-at : (k : ℕ) → k < 9 → getD (raised (kindCounts xs) (x .kind)) k 0 ≡ count k (xs ++ (x ∷ []))
+  raised-at k l = rw (count-more k xs x) (by (eqb (x .kind) k) refl)
+    where
+      by : (b : Bool) → eqb (x .kind) k ≡ b → getD (raised (kindCounts xs) (x .kind)) k 0 ≡ count k xs + cond b 1 0
+      by true e =
+          rw (← eqb-true (x .kind) k e)
+          (getD-set-same (kindCounts xs) (x .kind) _ 0 (rw (counts-length xs) h) ∙ ap (λ (m : ℕ). m + 1) (count-at (x .kind) xs h))
+      by false e =
+          getD-set-other (kindCounts xs) (x .kind) k _ 0 (λ d. eqb-false (x .kind) k e (sym d)) ∙ count-at k xs l ∙ omega arith
+
+  pub counts-raised : raised (kindCounts xs) (x .kind) ≡ kindCounts (xs ++ (x ∷ []))
+  counts-raised =
+      let long : length (raised (kindCounts xs) (x .kind)) ≡ 9 = length-set (kindCounts xs) (x .kind) _ ∙ counts-length xs in
+      ext-getD 0 _ _ (long ∙ sym (counts-length (xs ++ (x ∷ []))))
+      (λ k l. let m : k < 9 = omega (arith, long) in raised-at k m ∙ sym (count-at k (xs ++ (x ∷ [])) m))

@@ -1,0 +1,4 @@
+-- Laws of accepted images, and of counting.
+pub mod Checked
+pub mod Encoded
+pub mod Counting

@@ -1,0 +1,79 @@
+-- What one run from power-up, or one step, says, in bytes alone: without lists of calls, and without the relations by which the demands are stated. It is what a user leans on
+-- who runs a netlist once; that it follows shows that the demands say it.
+use Prim.Native.Nat.{ℕ, _+_, _*_, _/_, _%_, _<_}
+use mathlib.Core.Path.{_≡_}
+use mathlib.Core.List.{List}
+use mathlib.Core.Option.{none}
+use lib.ListN.{length, getD}
+use Rattle.gates.specs.Kinds.{OUT}
+use Rattle.image.specs.Image.{sizesOf}
+use Rattle.cycle.specs.Cycle.{Verdict, clear, FirstFlow}
+use Rattle.cycle.specs.Calls.{Answer, done, powerUpOf, Stepped, stepOf, Ran, runOf}
+use Rattle.doubling.specs.Doubled.{doubleOf}
+use Rattle.claims.specs.NetBytes.{netOf, placeOf}
+
+-- a run of k cycles from power-up, of a state that held the bytes a before
+abbrev pub fromPowerUp : (s a : List ℕ) (k : ℕ) (rows outputs : List ℕ) → Ran
+fromPowerUp s a k rows outputs = runOf s (powerUpOf s a .state) k rows outputs
+
+-- the answer of a run of k cycles that is clear
+abbrev pub clearAfter : ℕ → Answer FirstFlow
+clearAfter k = done (record { cycle = k; verdict = clear })
+
+-- bytes that differ at most in the values of marked ones
+pub record SameMarks (rows rows′ : List ℕ) : Type 0 where
+  pub size : length rows ≡ length rows′
+  pub marks : (i : ℕ) → i < length rows → getD rows i 0 / 2 ≡ getD rows′ i 0 / 2
+  pub values : (i : ℕ) → i < length rows → getD rows i 0 / 2 ≡ 0 → getD rows i 0 % 2 ≡ getD rows′ i 0 % 2
+
+-- two runs' answers and outputs, where the first is clear: the second is clear too, and in every cycle c the byte of every protected OUT is unmarked, and the same
+pub record StaysClear (s : List ℕ) (k : ℕ) (o o′ : Ran) : Type 0 where
+  pub answer : o′ .answer ≡ clearAfter k
+  pub protected :
+      (c i : ℕ) → c < k → i < sizesOf s .nets → netOf s i .kind ≡ OUT → netOf s i .b ≡ 1
+      → let j = c * sizesOf s .outputs + placeOf OUT s i in
+      (getD (o .outputs) j 0 / 2 % 2 ≡ 0) × (getD (o .outputs) j 0 ≡ getD (o′ .outputs) j 0)
+
+-- a clear run from power-up stays clear whatever the values of marked pins; proved as `clear-stays`
+abbrev pub ClearStays : Type 0
+ClearStays =
+    (s a a′ : List ℕ) (k : ℕ) (rows rows′ outputs outputs′ : List ℕ)
+    → powerUpOf s a .refusal ≡ none → powerUpOf s a′ .refusal ≡ none → SameMarks rows rows′ → length outputs ≡ length outputs′
+    → fromPowerUp s a k rows outputs .answer ≡ clearAfter k
+    → StaysClear s k (fromPowerUp s a k rows outputs) (fromPowerUp s a′ k rows′ outputs′)
+
+-- two steps that are lent states and rows which differ at most in the values of marked bytes: the same verdict, and net and register bytes that differ at most so
+pub record SameSteps (o o′ : Stepped) : Type 0 where
+  pub answer : o .answer ≡ o′ .answer
+  pub nets : SameMarks (o .nets) (o′ .nets)
+  pub state : SameMarks (o .state) (o′ .state)
+
+-- from any state, wherever the first step is not refused; proved as `steps-agree`
+abbrev pub StepsAgree : Type 0
+StepsAgree =
+    (s st st′ row row′ nets nets′ : List ℕ) (v : Verdict)
+    → SameMarks st st′ → SameMarks row row′ → length nets ≡ length nets′ → stepOf s st row nets .answer ≡ done v
+    → SameSteps (stepOf s st row nets) (stepOf s st′ row′ nets′)
+
+-- rows for the doubled netlist: each byte as two, its value and its mark
+pub record InTwo (rows rows′ : List ℕ) : Type 0 where
+  pub size : length rows′ ≡ 2 * length rows
+  pub values : (i : ℕ) → i < length rows → getD rows′ (2 * i) 0 ≡ getD rows i 0 % 2
+  pub marks : (i : ℕ) → i < length rows → getD rows′ (2 * i + 1) 0 ≡ getD rows i 0 / 2
+
+-- a run, and that of the doubled netlist: it is not refused, and the values of its output bytes are the values and marks of the run's
+pub record ShowsInTwo (o o′ : Ran) : Type 0 where
+  pub first : FirstFlow
+  pub answer : o′ .answer ≡ done first
+  pub values : (j : ℕ) → j < length (o .outputs) → getD (o′ .outputs) (2 * j) 0 % 2 ≡ getD (o .outputs) j 0 % 2
+  pub marks : (j : ℕ) → j < length (o .outputs) → getD (o′ .outputs) (2 * j + 1) 0 % 2 ≡ getD (o .outputs) j 0 / 2
+
+-- a run on the image that doubling leaves in its buffer shows this, wherever doubling and the run are not refused; proved as `doubled-shows`
+abbrev pub DoubledShows : Type 0
+DoubledShows =
+    (s buf : List ℕ) → doubleOf s buf .refusal ≡ none
+    → let d = doubleOf s buf .buffer in
+    (a a′ : List ℕ) (k : ℕ) (rows rows′ outputs outputs′ : List ℕ) (f : FirstFlow)
+    → powerUpOf s a .refusal ≡ none → powerUpOf d a′ .refusal ≡ none → InTwo rows rows′ → length outputs′ ≡ 2 * length outputs
+    → fromPowerUp s a k rows outputs .answer ≡ done f
+    → ShowsInTwo (fromPowerUp s a k rows outputs) (fromPowerUp d a′ k rows′ outputs′)

@@ -1,0 +1,93 @@
+-- Every refusal that a call gives has a number from 1 to 17 and a place below 2^32.
+use Prim.Native.Nat.{ℕ, _^_, _≤_, _<_}
+use native.Mathlib.Omega.{arith}
+use native.Mathlib.Nat.{mul-le-mul}
+use mathlib.Core.Path.{_≡_, refl}
+use mathlib.Core.List.{List}
+use mathlib.Core.Option.{Option, none, some}
+use Rattle.image.specs.declared.image.Net.{Net}
+use Rattle.image.specs.Image.{sizesOf, netsOf}
+use Rattle.image.proofs.Nets.{count-most}
+use Rattle.refusals.specs.declared.answer.Refusal.{Refusal}
+use Rattle.checking.specs.Check.{checkRefusal}
+use Rattle.cycle.specs.Calls.{powerUpOf}
+use Rattle.doubling.specs.Doubled.{doubleOf}
+use Rattle.claims.specs.Accepted.{AcceptedImage}
+use Rattle.claims.specs.Refused as table
+use Rattle.claims.specs.Refused.{AnyCall, Gives, BadNet, BadImage, BadLent, Refused}
+use Rattle.claims.proofs.Promised.{promised}
+
+pub record Tabled (number place : ℕ) : Type 0 where
+  pub some-number : 1 ≤ number
+  pub most : number ≤ 17
+  pub low : place < 2 ^ 32
+
+-- there are at most 8,192 registers, and as many inputs
+record Few (s : List ℕ) : Type 0 where
+  inputs : sizesOf s .inputs ≤ 8192
+  registers : sizesOf s .registers ≤ 8192
+
+few : (s : List ℕ) → AcceptedImage s → Few s
+few s a =
+    let all = promised .image-read s .all in
+    record {
+      inputs = omega (arith, all, a .sized .few-nets, a .counts .inputs, count-most 1 (netsOf s));
+      registers = omega (arith, all, a .sized .few-nets, a .counts .registers, count-most 2 (netsOf s));
+    }
+
+-- line by line of the table
+bad-net : {n i : ℕ} {x : Net} {number : ℕ} → BadNet n i x number → i < 2 ^ 32 → Tabled number i
+bad-net (table.kind h) l = record { some-number = omega arith; most = omega arith; low = l }
+bad-net (table.pin h k) l = record { some-number = omega arith; most = omega arith; low = l }
+bad-net (table.value h k m) l = record { some-number = omega arith; most = omega arith; low = l }
+bad-net (table.unlisted h k m o) l = record { some-number = omega arith; most = omega arith; low = l }
+
+-- with place 0
+plain : {number : ℕ} → 1 ≤ number → number ≤ 17 → Tabled number 0
+plain l m = record { some-number = l; most = m; low = omega arith }
+
+bad-image : {s : List ℕ} {number place : ℕ} → BadImage s number place → Tabled number place
+bad-image (table.short h) = plain (omega arith) (omega arith)
+bad-image (table.no-nets h k) = plain (omega arith) (omega arith)
+bad-image (table.many-nets h k) = plain (omega arith) (omega arith)
+bad-image (table.inexact h k m o) = plain (omega arith) (omega arith)
+bad-image (table.bad-net z l h b) = bad-net b (omega (arith, z .few-nets))
+bad-image (table.miscounted h k m) = plain (omega arith) (omega arith)
+
+bad-lent : {s : List ℕ} {rowBytes filled : ℕ} {st rows buffer : List ℕ} {number place : ℕ} → Few s → rowBytes ≤ 2 ^ 32
+    → BadLent s rowBytes filled st rows buffer number place → Tabled number place
+bad-lent f l (table.state-size h) = plain (omega arith) (omega arith)
+bad-lent f l (table.state-byte e h) = record { some-number = omega arith; most = omega arith; low = omega (arith, h .below, f .registers) }
+bad-lent f l (table.row-size h k) = plain (omega arith) (omega arith)
+bad-lent f l (table.row-byte a e h) = record { some-number = omega arith; most = omega arith; low = omega (arith, h .below) }
+bad-lent f l (table.buffer-size h k m) = plain (omega arith) (omega arith)
+
+refused-tabled : (s : List ℕ) {c : AnyCall} {number place : ℕ} → Refused s c number place → Tabled number place
+refused-tabled s (table.bad-image h) = bad-image h
+refused-tabled s (table.bad-state h k) = plain (omega arith) (omega arith)
+refused-tabled s (table.bad-step a h) = let f = few s a in bad-lent f (omega (arith, f .inputs)) h
+refused-tabled s (table.many-cycles h k) = plain (omega arith) (omega arith)
+refused-tabled s (table.bad-run a h k) = let f = few s a in bad-lent f (omega (arith, mul-le-mul h (f .inputs))) k
+refused-tabled s (table.doubled-large h k) = plain (omega arith) (omega arith)
+refused-tabled s (table.doubled-size h k m) = plain (omega arith) (omega arith)
+
+pub tabled : (s : List ℕ) (c : AnyCall) (r : Refusal) → Gives s c r → Tabled (r .number) (r .place)
+tabled s c r h = refused-tabled s (promised .refusals s c r .0 h)
+
+-- the same of what a call without a result gives
+pub data Given : Option Refusal → Type 0 where
+  no : Given none
+  one : {r : Refusal} → Tabled (r .number) (r .place) → Given (some r)
+
+given : (o : Option Refusal) → ((r : Refusal) → o ≡ some r → Tabled (r .number) (r .place)) → Given o
+given none h = no
+given (some r) h = one (h r refl)
+
+pub check-given : (s : List ℕ) → Given (checkRefusal s)
+check-given s = given _ (λ r e. tabled s table.check r e)
+
+pub powered-up-given : (s st : List ℕ) → Given (powerUpOf s st .refusal)
+powered-up-given s st = given _ (λ r e. tabled s (table.power-up st) r e)
+
+pub doubled-given : (s buffer : List ℕ) → Given (doubleOf s buffer .refusal)
+doubled-given s buffer = given _ (λ r e. tabled s (table.double buffer) r e)

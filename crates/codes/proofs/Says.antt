@@ -1,0 +1,127 @@
+-- What a number says that a call answers with, by the record of promises.
+use Prim.Native.Nat.{ℕ, _+_, _*_, _/_, _%_, _^_, _≤_, _<_}
+use native.Mathlib.Omega.{arith}
+use mathlib.Core.Path.{_≡_, refl, sym, ap, _∙_}
+use mathlib.Core.List.{List}
+use mathlib.Core.Option.{Option, none, some}
+use borrow.Author.Tests.{lt-ltb, le-ltb, ne-eqb}
+use lib.ListN.{length}
+use Rattle.image.specs.declared.image.Net.{Net}
+use Rattle.image.specs.Image.{sizesOf, netsOf}
+use Rattle.refusals.specs.declared.answer.Refusal.{Refusal}
+use Rattle.cycle.specs.Cycle.{Verdict, clear, flow, cyclesOf, FirstFlow, firstFlow}
+use Rattle.cycle.specs.Calls.{Answer, done, refused, asStep, asRun, stepRefusal, stepOf, runOf}
+use Rattle.cycle.proofs.Calls.{either-way, step-accepted, step-refused, run-accepted}
+use Rattle.claims.specs.Refused.{check}
+use Rattle.claims.specs.Verdicts as judged
+use Rattle.claims.specs.Verdicts.{MarkedOutput, Judged, First}
+use Rattle.claims.specs.InBytes.{clearAfter}
+use Rattle.claims.proofs.Unchanged.{not-refused}
+use Rattle.claims.proofs.OneRun.{run-taken}
+use Rattle.claims.proofs.ClearRun.{cycles-length}
+use Rattle.claims.proofs.Promised.{promised}
+use Rattle.codes.specs.Codes.{outcomeCode, verdictCode, firstFlowCode, answerCode}
+use Rattle.codes.specs.Readings.{outcomeRead, stepRead, runRead}
+use Rattle.codes.specs.Says.{NumbersSay}
+use Rattle.codes.proofs.Small.{Answered, gave, turned-back, step-answered, run-answered, naming-small, among-small}
+use Rattle.codes.proofs.Readings.{reads}
+
+-- REFUSED: the answer of which the number is 2^32 or more
+record Turned {A : Type 0} (no : Refusal → A) (a : A) : Type 0 where
+  refusal : Refusal
+  is : a ≡ no refusal
+
+turned-outcome : (o : Option Refusal) → 2 ^ 32 ≤ outcomeCode o → Turned some o
+turned-outcome none h = absurd (omega arith)
+turned-outcome (some r) h = record { refusal = r; is = refl }
+
+turned-answer : {A : Type 0} {P : A → Type 0} (code : A → ℕ) {a : Answer A} → ((x : A) → P x → code x < 2 ^ 32) → Answered P a
+    → 2 ^ 32 ≤ answerCode code a → Turned refused a
+turned-answer code small (gave x p) h = absurd (omega (arith, small x p))
+turned-answer code small (turned-back {r} t) h = record { refusal = r; is = refl }
+
+-- CLEAR. A verdict that is clear
+none-marked : {xs : List Net} {bs : List ℕ} {v : Verdict} → Judged xs bs v → v ≡ clear → (i : ℕ) → MarkedOutput xs bs i → ⊥
+none-marked (judged.none h) e = h
+none-marked (judged.lowest m h) e = let z : _≡_ {A = ℕ} 0 1 = cc in absurd (omega arith)
+
+step-unmarked : (s st row nets : List ℕ) → stepOf s st row nets .answer ≡ done clear → (i : ℕ) → MarkedOutput (netsOf s) (stepOf s st row nets .nets) i → ⊥
+unfolding asStep
+step-unmarked s st row nets h =
+    either-way (stepRefusal s st row nets)
+    (λ e.
+    let a = step-accepted s st row nets e in
+    let v : done _ ≡ done clear = rw a at h in
+    rw a (none-marked (promised .verdicts (netsOf s) row st) cc))
+    (λ r e. absurd (not-refused (sym (rw (step-refused s st row nets r e) at h))))
+
+-- a verdict that is a flow
+marked-at : {xs : List Net} {bs : List ℕ} {v : Verdict} → Judged xs bs v → (i : ℕ) → v ≡ flow i → MarkedOutput xs bs i
+marked-at (judged.none h) i e = let z : _≡_ {A = ℕ} 0 1 = cc in absurd (omega arith)
+marked-at (judged.lowest {i = j} m h) i e = let k : j ≡ i = cc in rw (← k) m
+
+step-marked : (s st row nets : List ℕ) (i : ℕ) → stepOf s st row nets .answer ≡ done (flow i) → MarkedOutput (netsOf s) (stepOf s st row nets .nets) i
+unfolding asStep
+step-marked s st row nets i h =
+    either-way (stepRefusal s st row nets)
+    (λ e.
+    let a = step-accepted s st row nets e in
+    let v : done _ ≡ done (flow i) = rw a at h in
+    rw a (marked-at (promised .verdicts (netsOf s) row st) i cc))
+    (λ r e. absurd (not-refused (sym (rw (step-refused s st row nets r e) at h))))
+
+flow-read : (n : ℕ) → n < 65535 → stepRead n ≡ done (flow n)
+flow-read n h =
+    let rest : n % 65536 ≡ n = omega arith in
+    rw (lt-ltb n (2 ^ 32) (omega arith), rest, ne-eqb n 65535 (λ e. omega arith))
+
+refusal-read : (n p : ℕ) → 1 ≤ n → p < 2 ^ 32 → outcomeRead (n * 2 ^ 32 + p) ≡ some (record { number = n; place = p })
+refusal-read n p h k =
+    let number : (n * 2 ^ 32 + p) / 2 ^ 32 ≡ n = omega arith in
+    let place : (n * 2 ^ 32 + p) % 2 ^ 32 ≡ p = omega arith in
+    rw (le-ltb (n * 2 ^ 32 + p) (2 ^ 32) (omega arith), number, place)
+
+-- a first flow that is clear has the number of cycles
+clear-cycle : {vs : List Verdict} {f : FirstFlow} → First vs f → f .verdict ≡ clear → f ≡ record { cycle = length vs; verdict = clear }
+clear-cycle (judged.all-clear h) e = refl
+clear-cycle (judged.first l h b) e = let z : _≡_ {A = ℕ} 0 1 = cc in absurd (omega arith)
+
+clear-answer : (s st : List ℕ) (k : ℕ) (rows outputs : List ℕ) (f : FirstFlow) → runOf s st k rows outputs .answer ≡ done f → f .verdict ≡ clear
+    → runOf s st k rows outputs .answer ≡ clearAfter k
+unfolding asRun
+clear-answer s st k rows outputs f h e =
+    let a = run-accepted s st k rows outputs (run-taken s st k rows outputs h) in
+    let cs = cyclesOf (netsOf s) (sizesOf s .inputs) k rows st in
+    let g : done (firstFlow 0 cs) ≡ done f = rw a at h in
+    let v : firstFlow 0 cs .verdict ≡ clear = cc in
+    rw (a, clear-cycle (promised .first-flows cs) v, cycles-length s k rows st)
+
+run-is-clear : (s st : List ℕ) (k : ℕ) (rows outputs : List ℕ)
+    → let n = answerCode firstFlowCode (runOf s st k rows outputs .answer) in
+    n < 2 ^ 32 → n % 65536 ≡ 65535 → runOf s st k rows outputs .answer ≡ clearAfter k
+run-is-clear s st k rows outputs l m =
+    let n = answerCode firstFlowCode (runOf s st k rows outputs .answer) in
+    let read : runRead n ≡ done (record { cycle = n / 65536; verdict = clear }) = rw (lt-ltb n (2 ^ 32) l, m) in
+    clear-answer s st k rows outputs (record { cycle = n / 65536; verdict = clear }) (sym (reads .run s st k rows outputs) ∙ read) refl
+
+pub says : NumbersSay
+says =
+    record {
+      check = λ s. (
+        λ h. promised .when-accepted .check s .0 (sym (reads .check s) ∙ ap outcomeRead h),
+        λ a. ap outcomeCode (promised .when-accepted .check s .1 a),
+      );
+      power-up-kept = λ s st h. let t = turned-outcome _ h in promised .unchanged .power-up s st (t .refusal) (t .is);
+      step-kept = λ s st row nets h.
+          let t = turned-answer verdictCode (λ v p. omega (arith, naming-small v p)) (step-answered s st row nets) h in
+          promised .unchanged .step s st row nets (t .refusal) (t .is);
+      run-kept = λ s st k rows outputs h.
+          let t = turned-answer firstFlowCode among-small (run-answered s st k rows outputs) h in
+          promised .unchanged .run s st k rows outputs (t .refusal) (t .is);
+      double-kept = λ s buf h. let t = turned-outcome _ h in promised .unchanged .double s buf (t .refusal) (t .is);
+      step-clear = λ s st row nets h. step-unmarked s st row nets (sym (reads .step s st row nets) ∙ ap stepRead h);
+      step-flow = λ s st row nets h. step-marked s st row nets _ (sym (reads .step s st row nets) ∙ flow-read _ h);
+      check-refused = λ s n p h k e. promised .refusals s check (record { number = n; place = p }) .0 (sym (reads .check s) ∙ ap outcomeRead e ∙ refusal-read n p h k);
+      run-clear = λ s a a′ k rows rows′ outputs outputs′ p p′ r l m n.
+          promised .clear-stays s a a′ k rows rows′ outputs outputs′ p p′ r l (run-is-clear s _ k rows outputs m n);
+    }

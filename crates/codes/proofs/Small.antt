@@ -1,0 +1,98 @@
+-- How large the number of an answer is: below 2^32 without a refusal, and below 2^64 with one.
+use Prim.Native.Nat.{ℕ, zero, suc, _+_, _^_, _≤_, _<_}
+use native.Mathlib.Omega.{arith}
+use mathlib.Core.Path.{_≡_}
+use mathlib.Core.List.{List}
+use mathlib.Core.Option.{Option}
+use lib.ListN.{take, drop}
+use Rattle.image.specs.Image.{sizesOf, netsOf}
+use Rattle.refusals.specs.declared.answer.Refusal.{Refusal}
+use Rattle.cycle.specs.Cycle.{Verdict, clear, flow, cycleOf, cyclesOf, FirstFlow, firstOf, firstFlow}
+use Rattle.cycle.specs.Calls.{Answer, done, refused, asStep, asRun, stepRefusal, stepOf, runRefusal, runOf}
+use Rattle.cycle.proofs.Calls.{either-way, step-accepted, step-refused, run-accepted, run-refused}
+use Rattle.claims.specs.Accepted.{AcceptedImage}
+use Rattle.claims.specs.Refused as table
+use Rattle.claims.specs.Verdicts.{Judged, none, lowest}
+use Rattle.claims.proofs.Promised.{promised}
+use Rattle.codes.specs.Codes.{refusalCode, outcomeCode, verdictCode, firstFlowCode, answerCode}
+use Rattle.codes.proofs.Given.{Tabled, tabled, Given, no, one}
+
+-- a verdict on n nets is clear, or names one of them, behind net 0
+pub data Naming (n : ℕ) : Verdict → Type 0 where
+  no-net : Naming n clear
+  names : {i : ℕ} → 1 ≤ i → i < n → Naming n (flow i)
+
+-- an OUT stands behind its pin, so it is not net 0
+judged-names : (s : List ℕ) {bs : List ℕ} {v : Verdict} → AcceptedImage s → Judged (netsOf s) bs v → Naming 8192 v
+judged-names s a (Judged.none h) = no-net
+judged-names s a (lowest {i} m h) =
+    let l : i < sizesOf s .nets = omega (arith, m .below, promised .image-read s .all) in
+    let pin = a .nets i l .pins .a (omega (arith, m .out)) (omega (arith, m .out)) in
+    names {i = i} (omega (arith, pin)) (omega (arith, a .sized .few-nets))
+
+verdict-names : (s : List ℕ) → AcceptedImage s → (row st : List ℕ) → Naming 8192 (cycleOf (netsOf s) row st .verdict)
+verdict-names s a row st = judged-names s a (promised .verdicts (netsOf s) row st)
+
+-- a first flow among cycles up to the last one, with a verdict on n nets
+pub record Among (last n : ℕ) (f : FirstFlow) : Type 0 where
+  pub cycle : f .cycle ≤ last
+  pub verdict : Naming n (f .verdict)
+
+first-among : {i last n : ℕ} (v : Verdict) {f : FirstFlow} → i ≤ last → Naming n v → Among last n f → Among last n (firstOf i v f)
+unfolding firstOf
+first-among clear h l a = a
+first-among (flow net) h l a = record { cycle = h; verdict = l }
+
+flow-among :
+    (s : List ℕ) → AcceptedImage s → (inputs k i : ℕ) (rows st : List ℕ) → Among (i + k) 8192 (firstFlow i (cyclesOf (netsOf s) inputs k rows st))
+unfolding cyclesOf firstFlow
+flow-among s a inputs zero i rows st = record { cycle = omega arith; verdict = no-net }
+flow-among s a inputs (suc k) i rows st =
+    let e : suc i + k ≡ i + suc k = omega arith in
+    let c = cycleOf (netsOf s) (take inputs rows) st in
+    first-among (c .verdict) (omega arith) (verdict-names s a (take inputs rows) st)
+    (rw e at (flow-among s a inputs k (suc i) (drop inputs rows) (c .state)))
+
+-- what a call answers: a result of which P holds, or a refusal of the table
+pub data Answered {A : Type 0} (P : A → Type 0) : Answer A → Type 0 where
+  gave : (x : A) → P x → Answered P (done x)
+  turned-back : {r : Refusal} → Tabled (r .number) (r .place) → Answered P (refused r)
+
+pub step-answered : (s st row nets : List ℕ) → Answered (Naming 8192) (stepOf s st row nets .answer)
+unfolding asStep
+step-answered s st row nets =
+    either-way (stepRefusal s st row nets)
+    (λ h.
+    let a = promised .when-accepted .step s st row nets .0 h .0 in
+    rw (step-accepted s st row nets h) (gave (cycleOf (netsOf s) row st .verdict) (verdict-names s a row st)))
+    (λ r h. let e = step-refused s st row nets r h in rw e (turned-back (tabled s (table.step st row nets) r (rw e))))
+
+pub run-answered : (s st : List ℕ) (k : ℕ) (rows outputs : List ℕ) → Answered (Among 4096 8192) (runOf s st k rows outputs .answer)
+unfolding asRun
+run-answered s st k rows outputs =
+    either-way (runRefusal s st k rows outputs)
+    (λ h.
+    let n = promised .when-accepted .run s st k rows outputs .0 h in
+    let a = flow-among s (n .0) (sizesOf s .inputs) k 0 rows st in
+    rw (run-accepted s st k rows outputs h)
+    (gave (firstFlow 0 (cyclesOf (netsOf s) (sizesOf s .inputs) k rows st)) (record { cycle = omega (arith, a .cycle, n .1); verdict = a .verdict })))
+    (λ r h. let e = run-refused s st k rows outputs r h in rw e (turned-back (tabled s (table.run st k rows outputs) r (rw e))))
+
+-- so the numbers fit
+refusal-fits : {r : Refusal} → Tabled (r .number) (r .place) → refusalCode r < 2 ^ 64
+refusal-fits t = omega (arith, t .most, t .low)
+
+pub outcome-fits : {p : Option Refusal} → Given p → outcomeCode p < 2 ^ 64
+outcome-fits no = omega arith
+outcome-fits (one t) = refusal-fits t
+
+pub naming-small : (v : Verdict) → Naming 8192 v → verdictCode v < 65536
+naming-small clear h = omega arith
+naming-small (flow i) (names l m) = omega arith
+
+pub among-small : (f : FirstFlow) → Among 4096 8192 f → firstFlowCode f < 2 ^ 32
+among-small f a = omega (arith, a .cycle, naming-small (f .verdict) (a .verdict))
+
+pub answer-fits : {A : Type 0} {P : A → Type 0} (code : A → ℕ) {a : Answer A} → ((x : A) → P x → code x < 2 ^ 32) → Answered P a → answerCode code a < 2 ^ 64
+answer-fits code small (gave x p) = omega (arith, small x p)
+answer-fits code small (turned-back t) = refusal-fits t

@@ -1,0 +1,49 @@
+-- What a number says that a call answers with: the promises, for a caller who sees numbers and lent bytes alone.
+use Prim.Native.Nat.{ℕ, _+_, _*_, _%_, _^_, _≤_, _<_}
+use mathlib.Core.Logic.{_↔_}
+use mathlib.Core.Path.{_≡_}
+use mathlib.Core.List.{List}
+use mathlib.Core.Option.{none}
+use lib.ListN.{length}
+use Rattle.image.specs.Image.{netsOf}
+use Rattle.checking.specs.Check.{checkRefusal}
+use Rattle.cycle.specs.Calls.{powerUpOf, stepOf, runOf}
+use Rattle.doubling.specs.Doubled.{doubleOf}
+use Rattle.claims.specs.Accepted.{AcceptedImage}
+use Rattle.claims.specs.Refused.{AnyCall, Refused}
+use Rattle.claims.specs.Verdicts.{MarkedOutput}
+use Rattle.claims.specs.InBytes.{fromPowerUp, SameMarks, StaysClear}
+use Rattle.codes.specs.Codes.{outcomeCode, verdictCode, firstFlowCode, answerCode}
+
+-- proved as `says`
+pub record NumbersSay : Type 0 where
+  -- checking answers 0 exactly if the image is as document 01 asks
+  pub check : (s : List ℕ) → (outcomeCode (checkRefusal s) ≡ 0) ↔ AcceptedImage s
+  -- an answer of 2^32 or more: no lent byte was changed
+  pub power-up-kept : (s st : List ℕ) → 2 ^ 32 ≤ outcomeCode (powerUpOf s st .refusal) → powerUpOf s st .state ≡ st
+  pub step-kept :
+      (s st row nets : List ℕ) → 2 ^ 32 ≤ answerCode verdictCode (stepOf s st row nets .answer)
+      → (stepOf s st row nets .state ≡ st) × (stepOf s st row nets .nets ≡ nets)
+  pub run-kept :
+      (s st : List ℕ) (k : ℕ) (rows outputs : List ℕ) → 2 ^ 32 ≤ answerCode firstFlowCode (runOf s st k rows outputs .answer)
+      → (runOf s st k rows outputs .state ≡ st) × (runOf s st k rows outputs .outputs ≡ outputs)
+  pub double-kept : (s buf : List ℕ) → 2 ^ 32 ≤ outcomeCode (doubleOf s buf .refusal) → doubleOf s buf .buffer ≡ buf
+  -- a step answers 65,535: by the bytes that it leaves, no protected OUT is marked
+  pub step-clear :
+      (s st row nets : List ℕ) → answerCode verdictCode (stepOf s st row nets .answer) ≡ 65535
+      → (i : ℕ) → MarkedOutput (netsOf s) (stepOf s st row nets .nets) i → ⊥
+  -- a step answers a number below 65,535: that is the net of a protected OUT that is marked, by the bytes that it leaves
+  pub step-flow :
+      (s st row nets : List ℕ) → answerCode verdictCode (stepOf s st row nets .answer) < 65535
+      → MarkedOutput (netsOf s) (stepOf s st row nets .nets) (answerCode verdictCode (stepOf s st row nets .answer))
+  -- an answer of checking of 2^32 or more: the condition of that number applies at that place
+  pub check-refused :
+      (s : List ℕ) (number place : ℕ) → 1 ≤ number → place < 2 ^ 32 → outcomeCode (checkRefusal s) ≡ number * 2 ^ 32 + place
+      → Refused s AnyCall.check number place
+  -- a run from power-up answers a number below 2^32 whose rest by 65,536 is 65,535: it is clear, and stays clear whatever the values of marked pins
+  pub run-clear :
+      (s a a′ : List ℕ) (k : ℕ) (rows rows′ outputs outputs′ : List ℕ)
+      → powerUpOf s a .refusal ≡ none → powerUpOf s a′ .refusal ≡ none → SameMarks rows rows′ → length outputs ≡ length outputs′
+      → answerCode firstFlowCode (fromPowerUp s a k rows outputs .answer) < 2 ^ 32
+      → answerCode firstFlowCode (fromPowerUp s a k rows outputs .answer) % 65536 ≡ 65535
+      → StaysClear s k (fromPowerUp s a k rows outputs) (fromPowerUp s a′ k rows′ outputs′)

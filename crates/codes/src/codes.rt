@@ -1,0 +1,65 @@
+// Every answer as one number.
+use cycle::RunAnswer;
+use cycle::StepAnswer;
+use cycle::Verdict;
+use refusals::Outcome;
+use refusals::Refusal;
+ghost use mathlib.Core.Path.{_≡_};
+ghost use Prim.Native.Nat.{_^_, _<_};
+ghost use Rattle.refusals.specs.Refusals.{refusalIn};
+ghost use Rattle.cycle.specs.Answers.{verdictIn, stepAnswerIn, runAnswerIn};
+ghost use Rattle.codes.specs.Codes.{refusalCode, outcomeCode, verdictCode, firstFlowCode, answerCode};
+
+// The refusal's number × 2^32 + its place.
+fn refusal_code(r: Refusal) -> u64
+    requires { ⌜ refusalCode r < 2 ^ 64 ⌝ }
+    ensures { λ c. ⌜ c ≡ refusalCode r ⌝ }
+{
+    (r.number as u64) * 4294967296 + r.place as u64
+}
+
+// 65,535 for clear, or the flow's net.
+fn verdict_code(v: Verdict) -> u64
+    ensures { λ c. ⌜ c ≡ verdictCode (verdictIn v) ⌝ }
+{
+    match v {
+        Verdict::Clear => 65535,
+        Verdict::Flow(net) => net as u64,
+    }
+}
+
+// 0 for done, or the refusal.
+pub fn outcome_code(o: Outcome) -> u64
+    requires { ⌜ outcomeCode (refusalIn o) < 2 ^ 64 ⌝ }
+    ensures { λ c. ⌜ c ≡ outcomeCode (refusalIn o) ⌝ }
+{
+    match o {
+        Outcome::Done => 0,
+        Outcome::Refused(r) => refusal_code(r),
+    }
+}
+
+// The verdict, or the refusal.
+pub fn step_code(a: StepAnswer) -> u64
+    requires { ⌜ answerCode verdictCode (stepAnswerIn a) < 2 ^ 64 ⌝ }
+    ensures { λ c. ⌜ c ≡ answerCode verdictCode (stepAnswerIn a) ⌝ }
+{
+    match a {
+        StepAnswer::Done(v) => verdict_code(v),
+        StepAnswer::Refused(r) => refusal_code(r),
+    }
+}
+
+// The first flow, its cycle × 65,536 + its verdict; or the refusal.
+pub fn run_code(a: RunAnswer) -> u64
+    requires { ⌜ answerCode firstFlowCode (runAnswerIn a) < 2 ^ 64 ⌝ }
+    ensures { λ c. ⌜ c ≡ answerCode firstFlowCode (runAnswerIn a) ⌝ }
+{
+    match a {
+        RunAnswer::Done(f) => {
+            let v = f.verdict;
+            f.cycle as u64 * 65536 + verdict_code(v)
+        }
+        RunAnswer::Refused(r) => refusal_code(r),
+    }
+}

@@ -1,0 +1,6 @@
+// An answer as one number.
+mod codes;
+
+pub use codes::outcome_code;
+pub use codes::run_code;
+pub use codes::step_code;

@@ -1,0 +1,142 @@
+-- What each call is where it is accepted and where it is refused, and what its acceptance says of the lent bytes.
+use Prim.Native.Nat.{ℕ, zero, suc, _*_, _≤_}
+use native.Mathlib.Omega.{arith}
+use native.Mathlib.Nat.{suc-mul}
+use mathlib.Core.Logic.{_↔_}
+use mathlib.Core.Path.{_≡_, refl, sym, _∙_}
+use mathlib.Core.List.{List}
+use mathlib.Core.Option.{Option, none, some}
+use mathlib.Core.Bool.{Bool, true, false, cond}
+use lib.Dec.{eqb, lit≤}
+use lib.ListN.{length, take, drop, length-drop}
+use lib.Seq.{length-take-le}
+use Rattle.gates.proofs.Laws.{Code}
+use Rattle.image.specs.Image.{sizesOf, netsOf}
+use Rattle.image.proofs.Pairs.{pairs-take, pairs-drop}
+use Rattle.refusals.specs.declared.answer.Refusal.{Refusal}
+use Rattle.refusals.proofs.Refusals.{accepted, Codes}
+use Rattle.checking.proofs.Checked.{Checked, check-none}
+use Rattle.cycle.specs.Cycle.{clocked, cycleOf, cyclesOf, stateAfter}
+use Rattle.cycle.specs.Calls.{stateLength, refused, start, starts, powerUpRefusal, powerUpOf, asStep, stepRefusal, stepOf, asRun, runRefusal, runOf}
+use Rattle.cycle.proofs.Cycles.{registers-related, registers-length, codes-cycle}
+
+-- a refusal is given, or none
+pub either-way : {A : Type 0} (o : Option Refusal) → (o ≡ none → A) → ((r : Refusal) → o ≡ some r → A) → A
+either-way none f g = f refl
+either-way (some r) f g = g r refl
+
+-- POWER-UP
+pub power-up-accepted : (s st : List ℕ) → powerUpRefusal s st ≡ none → powerUpOf s st ≡ record { refusal = none; state = starts (netsOf s) }
+unfolding powerUpOf
+power-up-accepted s st h = rw (h, powerUpOf)
+
+pub power-up-refused : (s st : List ℕ) (r : Refusal) → powerUpRefusal s st ≡ some r → powerUpOf s st ≡ record { refusal = some r; state = st }
+unfolding powerUpOf
+power-up-refused s st r h = rw (h, powerUpOf)
+
+pub power-up-none : (s st : List ℕ) → (powerUpRefusal s st ≡ none) ↔ (Checked s × (length st ≡ stateLength (sizesOf s)))
+unfolding powerUpRefusal
+power-up-none s st = (λ h. simp (accepted, check-none) at h, λ h. simp (accepted, check-none) h)
+
+-- STEP
+pub step-accepted : (s st row nets : List ℕ) → stepRefusal s st row nets ≡ none → stepOf s st row nets ≡ asStep (cycleOf (netsOf s) row st)
+unfolding stepOf
+step-accepted s st row nets h = rw (h, stepOf)
+
+pub step-refused :
+    (s st row nets : List ℕ) (r : Refusal) → stepRefusal s st row nets ≡ some r
+    → stepOf s st row nets ≡ record { answer = refused r; state = st; nets = nets }
+unfolding stepOf
+step-refused s st row nets r h = rw (h, stepOf)
+
+-- RUN
+pub run-accepted :
+    (s st : List ℕ) (k : ℕ) (rows outputs : List ℕ) → runRefusal s st k rows outputs ≡ none
+    → runOf s st k rows outputs ≡ asRun st (cyclesOf (netsOf s) (sizesOf s .inputs) k rows st)
+unfolding runOf
+run-accepted s st k rows outputs h = rw (h, runOf)
+
+pub run-refused :
+    (s st : List ℕ) (k : ℕ) (rows outputs : List ℕ) (r : Refusal) → runRefusal s st k rows outputs ≡ some r
+    → runOf s st k rows outputs ≡ record { answer = refused r; state = st; outputs = outputs }
+unfolding runOf
+run-refused s st k rows outputs r h = rw (h, runOf)
+
+-- WHAT IS ACCEPTED. A state of an image, and n row bytes beside it
+pub record IsState (s st : List ℕ) : Type 0 where
+  pub size : length st ≡ stateLength (sizesOf s)
+  pub codes : Codes st
+
+pub record Ready (s st : List ℕ) (n : ℕ) (rows : List ℕ) : Type 0 where
+  pub image : Checked s
+  pub state : IsState s st
+  pub size : length rows ≡ n
+  pub codes : Codes rows
+
+pub step-none : (s st row nets : List ℕ) → (stepRefusal s st row nets ≡ none) ↔ (Ready s st (sizesOf s .inputs) row × (length nets ≡ sizesOf s .nets))
+unfolding stepRefusal
+step-none s st row nets = (
+  λ h.
+      let t = simp (accepted, check-none) at h in
+      (record { image = t .0; state = record { size = t .1 .0; codes = t .1 .1 .0 }; size = t .1 .1 .1 .0; codes = t .1 .1 .1 .1 .0 }, t .1 .1 .1 .1 .1),
+  λ r. simp (accepted, check-none) (r .0 .image, (r .0 .state .size, (r .0 .state .codes, (r .0 .size, (r .0 .codes, r .1))))),
+)
+
+pub run-none :
+    (s st : List ℕ) (k : ℕ) (rows outputs : List ℕ)
+    → (runRefusal s st k rows outputs ≡ none) ↔ (Ready s st (k * sizesOf s .inputs) rows × (k ≤ 4096) × (length outputs ≡ k * sizesOf s .outputs))
+unfolding runRefusal
+run-none s st k rows outputs = (
+  λ h.
+      let t = simp (accepted, check-none) at h in
+      let u = t .1 .1 in
+      (record { image = t .0; state = record { size = u .0; codes = u .1 .0 }; size = u .1 .1 .0; codes = u .1 .1 .1 .0 }, t .1 .0, u .1 .1 .1 .1),
+  λ r. simp (accepted, check-none) (r .0 .image, (r .1, (r .0 .state .size, (r .0 .state .codes, (r .0 .size, (r .0 .codes, r .2)))))),
+)
+
+-- power-up leaves a state, and so does a cycle
+start-code : (b : ℕ) → start b ≤ 3
+unfolding start
+start-code b = low (eqb b 1)
+  where
+    low : (c : Bool) → cond c 1 0 ≤ 3
+    low true = lit≤ tt
+    low false = lit≤ tt
+
+pub starts-state : {s : List ℕ} → Checked s → IsState s (starts (netsOf s))
+unfolding starts
+starts-state {s} c =
+    record {
+      size = registers-length _ (netsOf s) ∙ sym (c .registers);
+      codes = registers-related Code (λ x. start-code (x .b)) (netsOf s);
+    }
+
+pub powered-up : (s a : List ℕ) → Checked s → length a ≡ stateLength (sizesOf s) → powerUpOf s a ≡ record { refusal = none; state = starts (netsOf s) }
+powered-up s a c l = power-up-accepted s a (power-up-none s a .1 (c, l))
+
+pub cycle-state : {s st row : List ℕ} → Ready s st (sizesOf s .inputs) row → IsState s (cycleOf (netsOf s) row st .state)
+cycle-state {s} {st} {row} r =
+    record {
+      size = unfold cycleOf clocked in registers-length _ (netsOf s) ∙ sym (r .image .registers);
+      codes = codes-cycle (r .image .nets) (r .codes) (r .state .codes) .state;
+    }
+
+-- the first cycle of many, and those after it
+module _ {s st : List ℕ} (k : ℕ) {rows : List ℕ} (r : Ready s st (suc k * sizesOf s .inputs) rows) where
+  pub first-ready : Ready s st (sizesOf s .inputs) (take (sizesOf s .inputs) rows)
+  first-ready =
+      let m = suc-mul k (sizesOf s .inputs) in
+      let l = r .size in
+      record { image = r .image; state = r .state; size = length-take-le (sizesOf s .inputs) rows (omega arith); codes = pairs-take (sizesOf s .inputs) (r .codes) }
+
+  pub rest-ready : Ready s (cycleOf (netsOf s) (take (sizesOf s .inputs) rows) st .state) (k * sizesOf s .inputs) (drop (sizesOf s .inputs) rows)
+  rest-ready =
+      let m = suc-mul k (sizesOf s .inputs) in
+      let l = r .size in
+      record { image = r .image; state = cycle-state first-ready; size = simp length-drop (omega arith); codes = pairs-drop (sizesOf s .inputs) (r .codes) }
+
+pub run-state : {s : List ℕ} (k : ℕ) {st rows : List ℕ} → Ready s st (k * sizesOf s .inputs) rows
+    → IsState s (stateAfter st (cyclesOf (netsOf s) (sizesOf s .inputs) k rows st))
+unfolding cyclesOf stateAfter
+run-state zero r = r .state
+run-state (suc k) r = run-state k (rest-ready k r)

@@ -1,0 +1,168 @@
+-- Cycles on related rows and states: a relation of bytes that the gates keep holds of every byte that comes of them.
+-- Its instances: agreement, and codes.
+use Prim.Native.Nat.{ℕ, zero, suc, _≤_}
+use native.Mathlib.Omega.{arith}
+use mathlib.Core.Path.{_≡_, refl}
+use mathlib.Core.List.{List, [], _∷_, Forall₂, Forall₂·nil, Forall₂·cons}
+use mathlib.Core.Bool.{cond}
+use lib.Dec.{eqb, lit≤}
+use lib.ListN.{length, getD}
+use Rattle.gates.specs.Rules.{gateByte}
+use Rattle.gates.specs.Relations.{AgreeByte, same, Agree}
+use Rattle.gates.specs.Kinds.{REG, OUT}
+use Rattle.gates.proofs.Laws.{Gates, gates-agree, agree-mark, Code, gates-code}
+use Rattle.image.specs.declared.image.Net.{Net}
+use Rattle.image.specs.Image.{count}
+use Rattle.image.proofs.Pairs.{pairs-append, pairs-getD, pairs-take, pairs-drop}
+use Rattle.refusals.proofs.Refusals.{Codes}
+use Rattle.net_checking.proofs.Passes.{Passes, is-const, is-input, is-reg, is-not, is-and, is-or, is-xor, is-mux, is-out}
+use Rattle.checking.proofs.Checked.{AllPass, nil, cons}
+use Rattle.cycle.specs.Cycle.{Walk, pinByte, netByte, past, walk, bytesOf, Verdict, verdictFrom, outputsFrom, registers, clocked, Cycle, cycleOf, cyclesOf, outputsOf, stateAfter}
+use Rattle.cycle.proofs.Selections.{outputs-selected, registers-selected, selection-length, selections-related}
+
+-- a relation of bytes that a CONST's bytes have to themselves, and that the gates keep
+pub record Kept (R : ℕ → ℕ → Type 0) : Type 0 where
+  pub const : (a : ℕ) → a ≤ 1 → R a a
+  pub gate : Gates R
+
+pub record WalkRelated (R : ℕ → ℕ → Type 0) (w w′ : Walk) : Type 0 where
+  pub bytes : Forall₂ R (w .bytes) (w′ .bytes)
+  pub row : Forall₂ R (w .row) (w′ .row)
+  pub state : Forall₂ R (w .state) (w′ .state)
+
+pub registers-related : (R : ℕ → ℕ → Type 0) {f g : Net → ℕ} → ((x : Net) → R (f x) (g x)) → (xs : List Net)
+    → Forall₂ R (registers f xs) (registers g xs)
+registers-related R {f} {g} h xs = selections-related R (registers-selected f) (registers-selected g) (λ i x. h x) 0 xs
+
+module _ {R : ℕ → ℕ → Type 0} (kept : Kept R) where
+  byte-related : {bs cs : List ℕ} (i : ℕ) → Forall₂ R bs cs → R (getD bs i 0) (getD cs i 0)
+  byte-related i h = pairs-getD i 0 (kept .const 0 (lit≤ tt)) h
+
+  pin-related : {bs cs : List ℕ} (p : ℕ) → Forall₂ R bs cs → R (pinByte bs p) (pinByte cs p)
+  unfolding pinByte
+  pin-related p h = byte-related p h
+
+  gate-related : {w w′ : Walk} (k a b c : ℕ) → WalkRelated R w w′
+      → R
+      (gateByte k (pinByte (w .bytes) a) (pinByte (w .bytes) b) (pinByte (w .bytes) c))
+      (gateByte k (pinByte (w′ .bytes) a) (pinByte (w′ .bytes) b) (pinByte (w′ .bytes) c))
+  gate-related k a b c h = kept .gate k _ _ _ _ _ _ (pin-related a (h .bytes)) (pin-related b (h .bytes)) (pin-related c (h .bytes))
+
+  net-related : {n i : ℕ} {x : Net} {w w′ : Walk} → Passes n i x → WalkRelated R w w′ → R (netByte gateByte x w) (netByte gateByte x w′)
+  unfolding netByte
+  net-related (is-const {a} p) h = kept .const a p
+  net-related is-input h = byte-related 0 (h .row)
+  net-related (is-reg p q) h = byte-related 0 (h .state)
+  net-related (is-not {a} p) h = gate-related 3 a 0 0 h
+  net-related (is-and {a} {b} p q) h = gate-related 4 a b 0 h
+  net-related (is-or {a} {b} p q) h = gate-related 5 a b 0 h
+  net-related (is-xor {a} {b} p q) h = gate-related 6 a b 0 h
+  net-related (is-mux {a} {b} {c} p q r) h = gate-related 7 a b c h
+  net-related (is-out {a} {b} p q) h = gate-related 8 a b 0 h
+
+  pub past-related : {n i : ℕ} {x : Net} {w w′ : Walk} → Passes n i x → WalkRelated R w w′ → WalkRelated R (past gateByte x w) (past gateByte x w′)
+  unfolding past
+  past-related {x = x} p h =
+      record {
+        bytes = pairs-append (h .bytes) (Forall₂·cons (net-related p h) Forall₂·nil);
+        row = pairs-drop (cond (eqb (x .kind) 1) 1 0) (h .row);
+        state = pairs-drop (cond (eqb (x .kind) 2) 1 0) (h .state);
+      }
+
+  walk-related : {n i : ℕ} {xs : List Net} {w w′ : Walk} → AllPass n i xs → WalkRelated R w w′
+      → WalkRelated R (walk gateByte xs w) (walk gateByte xs w′)
+  unfolding walk
+  walk-related nil h = h
+  walk-related (cons p ps) h = walk-related ps (past-related p h)
+
+  bytes-related :
+      {n i : ℕ} {xs : List Net} {row row′ st st′ : List ℕ} → AllPass n i xs → Forall₂ R row row′ → Forall₂ R st st′
+      → Forall₂ R (bytesOf gateByte xs row st) (bytesOf gateByte xs row′ st′)
+  unfolding bytesOf
+  bytes-related ps p q = walk-related ps (record { bytes = Forall₂·nil; row = p; state = q }) .bytes
+
+  outputs-related : {bs cs : List ℕ} (i : ℕ) (xs : List Net) → Forall₂ R bs cs → Forall₂ R (outputsFrom i xs bs) (outputsFrom i xs cs)
+  outputs-related {bs} {cs} i xs h = selections-related R (outputs-selected bs) (outputs-selected cs) (λ j x. byte-related j h) i xs
+
+  clocked-related : {bs cs : List ℕ} (xs : List Net) → Forall₂ R bs cs → Forall₂ R (clocked xs bs) (clocked xs cs)
+  unfolding clocked
+  clocked-related xs h = registers-related R (λ x. pin-related (x .a) h) xs
+
+-- CYCLES whose bytes are related by R, and their verdicts by Q
+pub record Related (R : ℕ → ℕ → Type 0) (Q : Verdict → Verdict → Type 0) (c c′ : Cycle) : Type 0 where
+  pub bytes : Forall₂ R (c .bytes) (c′ .bytes)
+  pub verdict : Q (c .verdict) (c′ .verdict)
+  pub outputs : Forall₂ R (c .outputs) (c′ .outputs)
+  pub state : Forall₂ R (c .state) (c′ .state)
+
+abbrev Judged : (ℕ → ℕ → Type 0) → (Verdict → Verdict → Type 0) → Type 0
+Judged R Q = (i : ℕ) (xs : List Net) (bs cs : List ℕ) → Forall₂ R bs cs → Q (verdictFrom i xs bs) (verdictFrom i xs cs)
+
+module _ {R : ℕ → ℕ → Type 0} {Q : Verdict → Verdict → Type 0} (kept : Kept R) (judged : Judged R Q)
+    {n : ℕ} {xs : List Net} (ps : AllPass n 0 xs) where
+  cycle-related : {row row′ st st′ : List ℕ} → Forall₂ R row row′ → Forall₂ R st st′ → Related R Q (cycleOf xs row st) (cycleOf xs row′ st′)
+  unfolding cycleOf
+  cycle-related p q =
+      let b = bytes-related kept ps p q in
+      record {
+        bytes = b;
+        verdict = judged 0 xs _ _ b;
+        outputs = outputs-related kept 0 xs b;
+        state = clocked-related kept xs b;
+      }
+
+  cycles-related : (i k : ℕ) {rows rows′ st st′ : List ℕ} → Forall₂ R rows rows′ → Forall₂ R st st′
+      → Forall₂ (Related R Q) (cyclesOf xs i k rows st) (cyclesOf xs i k rows′ st′)
+  unfolding cyclesOf
+  cycles-related i zero p q = Forall₂·nil
+  cycles-related i (suc k) p q = let c = cycle-related (pairs-take i p) q in Forall₂·cons c (cycles-related i k (pairs-drop i p) (c .state))
+
+module _ {R : ℕ → ℕ → Type 0} {Q : Verdict → Verdict → Type 0} where
+  pub outputs-of-related : {cs cs′ : List Cycle} → Forall₂ (Related R Q) cs cs′ → Forall₂ R (outputsOf cs) (outputsOf cs′)
+  unfolding outputsOf
+  outputs-of-related Forall₂·nil = Forall₂·nil
+  outputs-of-related (Forall₂·cons h t) = pairs-append (h .outputs) (outputs-of-related t)
+
+  pub state-after-related : {cs cs′ : List Cycle} {st st′ : List ℕ} → Forall₂ R st st′ → Forall₂ (Related R Q) cs cs′
+      → Forall₂ R (stateAfter st cs) (stateAfter st′ cs′)
+  unfolding stateAfter
+  state-after-related q Forall₂·nil = q
+  state-after-related q (Forall₂·cons h t) = state-after-related (h .state) t
+
+-- AGREEMENT: the verdicts are equal
+agree-kept : Kept AgreeByte
+agree-kept = record { const = λ a h. same; gate = gates-agree }
+
+agree-verdict : Judged AgreeByte _≡_
+unfolding verdictFrom
+agree-verdict i [] bs cs h = refl
+agree-verdict i (x ∷ xs) bs cs h = rw (agree-mark (pairs-getD i 0 same h), agree-verdict (suc i) xs bs cs h)
+
+pub agree-outputs : {bs cs : List ℕ} (i : ℕ) (xs : List Net) → Agree bs cs → Agree (outputsFrom i xs bs) (outputsFrom i xs cs)
+agree-outputs = outputs-related agree-kept
+
+module _ {n : ℕ} {xs : List Net} (ps : AllPass n 0 xs) where
+  pub agree-cycle : {row row′ st st′ : List ℕ} → Agree row row′ → Agree st st′ → Related AgreeByte _≡_ (cycleOf xs row st) (cycleOf xs row′ st′)
+  agree-cycle = cycle-related agree-kept agree-verdict ps
+
+  pub agree-cycles : (i k : ℕ) {rows rows′ st st′ : List ℕ} → Agree rows rows′ → Agree st st′
+      → Forall₂ (Related AgreeByte _≡_) (cyclesOf xs i k rows st) (cyclesOf xs i k rows′ st′)
+  agree-cycles = cycles-related agree-kept agree-verdict ps
+
+-- CODES: a cycle's bytes are 0 to 3 where its row's and its state's are
+pub code-kept : Kept Code
+code-kept = record { const = λ a h. omega arith; gate = gates-code }
+
+pub codes-outputs : {bs : List ℕ} (i : ℕ) (xs : List Net) → Codes bs → Codes (outputsFrom i xs bs)
+codes-outputs = outputs-related code-kept
+
+pub codes-cycle : {n : ℕ} {xs : List Net} {row st : List ℕ} → AllPass n 0 xs → Codes row → Codes st
+    → Related Code (λ v w. Unit {0}) (cycleOf xs row st) (cycleOf xs row st)
+codes-cycle ps = cycle-related {Q = λ v w. Unit {0}} code-kept (λ i xs bs cs h. tt) ps
+
+-- LENGTHS
+pub registers-length : (f : Net → ℕ) (xs : List Net) → length (registers f xs) ≡ count REG xs
+registers-length f xs = selection-length (registers-selected f) 0 xs
+
+pub outputs-length : (i : ℕ) (xs : List Net) (bs : List ℕ) → length (outputsFrom i xs bs) ≡ count OUT xs
+outputs-length i xs bs = selection-length (outputs-selected bs) i xs

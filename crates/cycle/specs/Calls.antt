@@ -1,0 +1,102 @@
+-- What power-up, a step and a run, on an image s and a state st, answer, and what each leaves in every lent buffer. A refusal leaves each as it was.
+use Prim.Native.Nat.{ℕ, _*_}
+use mathlib.Core.List.{List}
+use mathlib.Core.Option.{Option, none, some}
+use mathlib.Core.Bool.{cond}
+use lib.Dec.{eqb, ltb}
+use Rattle.image.specs.declared.image.Sizes.{Sizes}
+use Rattle.image.specs.declared.image.Net.{Net}
+use Rattle.image.specs.Image.{sizesOf, netsOf}
+use Rattle.refusals.specs.declared.answer.Refusal.{Refusal}
+use Rattle.refusals.specs.Refusals.{refuse, _then_, Alphabet, plainBytes, badByte, badLength}
+use Rattle.checking.specs.Check.{checkRefusal}
+use Rattle.cycle.specs.Cycle.{Verdict, registers, Cycle, cycleOf, cyclesOf, outputsOf, stateAfter, FirstFlow, firstFlow}
+
+-- the length of a state: one byte for each register
+abbrev pub stateLength : Sizes → ℕ
+stateLength z = z .registers
+
+-- the answer of a call that has a result
+pub data Answer (A : Type 0) : Type 0 where
+  done : A → Answer A
+  refused : Refusal → Answer A
+
+-- the byte that a register powers up with, by its operand b, which is 0, 1, or 2 for none given: the start value, or 0, with mark 0
+unfoldable pub start : ℕ → ℕ
+start b = cond (eqb b 1) 1 0
+
+-- power-up: that byte for each register, in net order
+unfoldable pub starts : List Net → List ℕ
+starts xs = registers (λ x. start (x .b)) xs
+
+-- what power-up gives: its refusal, or none, and the state
+pub record PoweredUp : Type 0 where
+  pub refusal : Option Refusal
+  pub state : List ℕ
+
+-- 1 to 8 and 10
+unfoldable pub powerUpRefusal : (s st : List ℕ) → Option Refusal
+powerUpRefusal s st = checkRefusal s then badLength 10 (stateLength (sizesOf s)) st
+
+unfoldable pub powerUpOf : (s st : List ℕ) → PoweredUp
+powerUpOf s st =
+    elim (powerUpRefusal s st) [
+      | none ↦ record { refusal = none; state = starts (netsOf s) }
+      | some r ↦ record { refusal = some r; state = st }
+    ]
+
+-- 10 to 14, by the bytes that a call takes, and by the numbers of bytes that it wants in the state, in its rows and in the buffer that it fills
+abbrev pub lentRefusal : Alphabet → (stateBytes rowBytes filled : ℕ) (st rows buffer : List ℕ) → Option Refusal
+lentRefusal bytes stateBytes rowBytes filled st rows buffer =
+    badLength 10 stateBytes st
+    then badByte (bytes .bad) (bytes .in-state) 0 st
+    then badLength 12 rowBytes rows
+    then badByte (bytes .bad) (bytes .in-rows) 0 rows
+    then badLength 14 filled buffer
+
+-- a step: its answer, the state, and the lent buffer of net bytes
+pub record Stepped : Type 0 where
+  pub answer : Answer Verdict
+  pub state : List ℕ
+  pub nets : List ℕ
+
+-- an accepted step, from its cycle
+unfoldable pub asStep : Cycle → Stepped
+asStep c = record { answer = done (c .verdict); state = c .state; nets = c .bytes }
+
+-- 1 to 8 and 10 to 14
+unfoldable pub stepRefusal : (s st row nets : List ℕ) → Option Refusal
+stepRefusal s st row nets =
+    checkRefusal s
+    then lentRefusal plainBytes (stateLength (sizesOf s)) (sizesOf s .inputs) (sizesOf s .nets) st row nets
+
+unfoldable pub stepOf : (s st row nets : List ℕ) → Stepped
+stepOf s st row nets =
+    elim (stepRefusal s st row nets) [
+      | none ↦ asStep (cycleOf (netsOf s) row st)
+      | some r ↦ record { answer = refused r; state = st; nets = nets }
+    ]
+
+-- a run: its answer, the state, and the lent buffer of output bytes
+pub record Ran : Type 0 where
+  pub answer : Answer FirstFlow
+  pub state : List ℕ
+  pub outputs : List ℕ
+
+-- an accepted run from the state st, from its cycles
+unfoldable pub asRun : (st : List ℕ) → List Cycle → Ran
+asRun st cs = record { answer = done (firstFlow 0 cs); state = stateAfter st cs; outputs = outputsOf cs }
+
+-- 1 to 14
+unfoldable pub runRefusal : (s st : List ℕ) (k : ℕ) (rows outputs : List ℕ) → Option Refusal
+runRefusal s st k rows outputs =
+    checkRefusal s
+    then refuse (ltb 4096 k) 9 0
+    then lentRefusal plainBytes (stateLength (sizesOf s)) (k * sizesOf s .inputs) (k * sizesOf s .outputs) st rows outputs
+
+unfoldable pub runOf : (s st : List ℕ) (k : ℕ) (rows outputs : List ℕ) → Ran
+runOf s st k rows outputs =
+    elim (runRefusal s st k rows outputs) [
+      | none ↦ asRun st (cyclesOf (netsOf s) (sizesOf s .inputs) k rows st)
+      | some r ↦ record { answer = refused r; state = st; outputs = outputs }
+    ]

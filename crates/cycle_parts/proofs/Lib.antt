@@ -1,0 +1,3 @@
+-- Laws of the pass that works out all nets.
+pub mod Reading
+pub mod Walking

@@ -1,0 +1,2 @@
+-- When a net can be worked out.
+pub mod Readable

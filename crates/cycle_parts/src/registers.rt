@@ -1,0 +1,57 @@
+// The registers of a netlist: their bytes at power-up, and after a clock.
+use gates::REG;
+use image::kind_of;
+use image::operand_of;
+ghost use mathlib.Core.Path.{_≡_};
+ghost use mathlib.Core.Option.{none};
+ghost use lib.ListN.{length};
+ghost use Rattle.gates.specs.Kinds.{REG};
+ghost use Rattle.image.specs.Image.{sizesOf, netsOf};
+ghost use Rattle.checking.specs.Check.{checkRefusal};
+ghost use Rattle.cycle.specs.Cycle.{clocked};
+ghost use Rattle.cycle.specs.Calls.{start, starts};
+
+// The byte that a register powers up with, by its operand b.
+fn start_byte(b: usize) -> u8
+    ensures { λ r. ⌜ r ≡ start b ⌝ }
+{
+    if b == 1 {
+        return 1;
+    }
+    0
+}
+
+// Every register takes its start byte.
+pub fn take_starts(image: &[u8], n: usize, state: &mut [u8])
+    requires { ⌜ checkRefusal (now image) ≡ none ⌝ }
+    requires { ⌜ (n ≡ sizesOf (now image) .nets) × (length (now state) ≡ sizesOf (now image) .registers) ⌝ }
+    ensures { λ r. ⌜ now (state .exit) ≡ starts (netsOf (now (image .entry))) ⌝ }
+{
+    let mut j: usize = 0;
+    let mut i: usize = 0;
+    while i < n {
+        if kind_of(image, i) == REG {
+            state[j] = start_byte(operand_of(image, i, 1));
+            j += 1;
+        }
+        i += 1;
+    }
+}
+
+// The clock: every register takes the byte of its net, all together.
+pub fn clock(image: &[u8], n: usize, nets: &[u8], state: &mut [u8])
+    requires { ⌜ checkRefusal (now image) ≡ none ⌝ }
+    requires { ⌜ (n ≡ sizesOf (now image) .nets) × (length (now nets) ≡ n) × (length (now state) ≡ sizesOf (now image) .registers) ⌝ }
+    ensures { λ r. ⌜ now (state .exit) ≡ clocked (netsOf (now (image .entry))) (now (nets .entry)) ⌝ }
+{
+    let mut j: usize = 0;
+    let mut i: usize = 0;
+    while i < n {
+        if kind_of(image, i) == REG {
+            let a = operand_of(image, i, 0);
+            state[j] = nets[a];
+            j += 1;
+        }
+        i += 1;
+    }
+}

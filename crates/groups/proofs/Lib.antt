@@ -1,0 +1,2 @@
+-- What the nets of a group show.
+pub mod Groups

@@ -1,0 +1,2 @@
+-- The groups of document 01.
+pub mod Groups

@@ -1,0 +1,1 @@
+// The group of nets that each net becomes: definitions and laws, and no code.

@@ -1,0 +1,2 @@
+-- Laws of the bytes that are kept before the next read.
+pub mod Keeping

@@ -1,0 +1,2 @@
+-- The whole rows of some bytes, and the unfinished row behind them.
+pub mod Rest

@@ -1,0 +1,2 @@
+-- Groups that are written net after net.
+pub mod InParts

@@ -1,0 +1,2 @@
+-- Room for a group.
+pub mod Room

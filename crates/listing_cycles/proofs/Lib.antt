@@ -1,0 +1,3 @@
+-- Laws of verdicts and lines by output bytes.
+pub mod Verdicts
+pub mod Lines

@@ -1,0 +1,2 @@
+-- Terms of the contracts between the functions that print the cycles of a run.
+pub mod ByOutputs

@@ -1,0 +1,7 @@
+// Cycles of a run, and a line for each by its output bytes.
+mod cycles;
+mod outs;
+
+pub use cycles::print_cycles;
+pub use cycles::print_run;
+pub use outs::list_outs;

@@ -1,0 +1,2 @@
+-- What is printed, line by line.
+pub mod Printed

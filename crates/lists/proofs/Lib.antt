@@ -1,0 +1,3 @@
+-- Laws of lists of net numbers.
+pub mod Placing
+pub mod Parting

@@ -1,0 +1,3 @@
+-- Laws of nets that pass.
+pub mod Passes
+pub mod Below

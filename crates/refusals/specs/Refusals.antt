@@ -1,0 +1,49 @@
+-- What a refusal is, how conditions are tried in their order, and the tests of a lent slice, of which calls make 10 to 14 and 16. `Refusal` and `Outcome`
+-- are the struct and the enum of src/answer.rt.
+use Prim.Native.Nat.{ℕ, suc}
+use mathlib.Core.List.{List, [], _∷_}
+use mathlib.Core.Option.{Option, none, some}
+use mathlib.Core.Bool.{Bool, not, cond}
+use lib.Dec.{eqb, ltb}
+use lib.ListN.{length}
+use Rattle.refusals.specs.declared.answer.Outcome.{Outcome}
+use Rattle.refusals.specs.declared.answer.Outcome.the-variants.{Done, Refused}
+use Rattle.refusals.specs.declared.answer.Refusal.{Refusal}
+
+-- a refusal's number in the table, and its place
+abbrev pub refusal : (number place : ℕ) → Refusal
+refusal number place = record { number = number; place = place }
+
+-- the refusal that an answer gives, or none where the call is done
+abbrev pub refusalIn : Outcome → Option Refusal
+refusalIn Done = none
+refusalIn (Refused r) = some r
+
+-- the refusal, where its condition holds
+abbrev pub refuse : Bool → (number place : ℕ) → Option Refusal
+refuse c number place = cond c (some (refusal number place)) none
+
+-- the first, or else the second
+infixr 40 _then_
+abbrev pub _then_ : Option Refusal → Option Refusal → Option Refusal
+some r then q = some r
+none then q = q
+
+-- The bytes that a call takes: which are bad, and the numbers that a bad byte draws in the state and in the rows
+pub record Alphabet : Type 0 where
+  pub bad : ℕ → Bool
+  pub in-state : ℕ
+  pub in-rows : ℕ
+
+-- 11 for a state byte above 3, and 13 for a row byte above 3
+abbrev pub plainBytes : Alphabet
+plainBytes = record { bad = ltb 3; in-state = 11; in-rows = 13 }
+
+-- the refusal at the index of the first bad byte of a list, the first of which has index i
+unfoldable pub badByte : (bad : ℕ → Bool) (number i : ℕ) → List ℕ → Option Refusal
+badByte bad number i [] = none
+badByte bad number i (x ∷ xs) = refuse (bad x) number i then badByte bad number (suc i) xs
+
+-- the refusal, at place 0, where a list is not n long
+unfoldable pub badLength : (number n : ℕ) → List ℕ → Option Refusal
+badLength number n xs = refuse (not (eqb (length xs) n)) number 0

@@ -1,0 +1,8 @@
+// Refusals, and the tests of lent slices.
+mod answer;
+mod lent;
+
+pub use answer::Outcome;
+pub use answer::Refusal;
+pub use answer::refused;
+pub use lent::codes_refusal;

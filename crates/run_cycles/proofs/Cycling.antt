@@ -1,0 +1,155 @@
+-- A cycle by lists: the INPUTs take the row's bytes and the REGs the state's, then the gates are settled. That gives the bytes of the cycle.
+use Prim.Native.Nat.{ℕ, _≤_, _<_}
+use native.Mathlib.Nat.{add-zero}
+use native.Mathlib.Omega.{arith}
+use mathlib.Core.Logic.{⊎-elim}
+use mathlib.Core.Path.{_≡_, refl, sym, ap, _∙_}
+use mathlib.Core.List.{List}
+use lib.Dec.{lit≤, lit<}
+use lib.ListN.{length, getD, take, List·getD-eq-default}
+use lib.Seq.{getD-drop}
+use Rattle.gates.specs.Kinds.{CONST, INPUT, REG, NOT}
+use Rattle.gates.specs.Rules.{gateByte}
+use Rattle.image.specs.declared.image.Net.{Net}
+use Rattle.image.specs.Image.{sizesOf, net, kindAt, operandAt, netAt, netsOf, count}
+use Rattle.image.proofs.Pairs.{pairs-getD}
+use Rattle.image.proofs.Nets.{net-in, length-nets}
+use Rattle.refusals.proofs.Refusals.{Codes}
+use Rattle.checking.proofs.Checked.{Checked}
+use Rattle.cycle.specs.Cycle.{Walk, netByte, bytesOf}
+use Rattle.cycle.proofs.Ruling.{sight, out-passes-on, ruled-bytes}
+use Rattle.cycle.proofs.Deciding.{same-or-not, there-or-not}
+use Rattle.cycle.proofs.Selections.{selection-length}
+use Rattle.lists.specs.Lists.{placesFrom, Put}
+use Rattle.lists.proofs.Placing.{places-selected, place-listed, not-listed}
+use Rattle.settling.specs.Settling.{Low, Settled, Prepared}
+use Rattle.settling.proofs.Gatewise.{gate-rule}
+
+-- codes are low, and so is what is read where there is no byte
+beyond : (bs : List ℕ) (i : ℕ) → length bs ≤ i → getD bs i 0 < 4
+beyond bs i h = rw (List·getD-eq-default bs 0 {n = i} h) (lit< tt)
+
+pub low-codes : {bs : List ℕ} → Codes bs → Low bs
+low-codes {bs} h = record { low = λ i. let m = pairs-getD i 0 (lit≤ tt) h in omega arith }
+
+-- the byte of a net that is no gate
+module _ (s : List ℕ) (i : ℕ) (w : Walk) where
+  abbrev n : ℕ
+  n = sizesOf s .nets
+
+  const-is : kindAt s i ≡ CONST → netByte gateByte (netAt s n i) w ≡ operandAt s n i 0
+  unfolding netByte netAt
+  const-is h = rw h
+
+  input-is : kindAt s i ≡ INPUT → netByte gateByte (netAt s n i) w ≡ getD (w .row) 0 0
+  unfolding netByte netAt
+  input-is h = rw h
+
+  register-is : kindAt s i ≡ REG → netByte gateByte (netAt s n i) w ≡ getD (w .state) 0 0
+  unfolding netByte netAt
+  register-is h = rw h
+
+abbrev blank : Net
+blank = net 0 0 0 0
+
+module _ {s : List ℕ} (c : Checked s) where
+  in-nets : (i : ℕ) → i < sizesOf s .nets → i < length (netsOf s)
+  in-nets i h = omega (arith, length-nets s)
+
+  kind-is : (i : ℕ) → i < sizesOf s .nets → getD (netsOf s) i blank .kind ≡ kindAt s i
+  unfolding netAt
+  kind-is i h = ap (λ (x : Net). x .kind) (net-in s _ i blank refl h)
+
+  -- bytes put to the nets of kind k: each has its own, and the nets of other kinds stay
+  module _ (k : ℕ) {list : List ℕ} (are : list ≡ placesFrom k 0 (netsOf s)) {bytes before after : List ℕ} (put : Put list bytes before after (length list)) (i : ℕ) (h : i < sizesOf s .nets) where
+    has : kindAt s i ≡ k → getD after i 0 ≡ getD bytes (count k (take i (netsOf s))) 0
+    has o =
+        let p = rw are at put in
+        let l = place-listed k (netsOf s) i blank (in-nets i h) (kind-is i h ∙ o) in
+        ap (λ j. getD after j 0) (sym (l .1)) ∙ p .taken (count k (take i (netsOf s))) (l .0)
+
+    stays : (kindAt s i ≡ k → ⊥) → getD after i 0 ≡ getD before i 0
+    stays other = let p = rw are at put in p .others i (not-listed k (netsOf s) i blank (λ o. other (sym (kind-is i h) ∙ o)))
+
+  module _ {row state nets₀ nets₁ nets₂ ins-list regs-list : List ℕ} (size : length nets₀ ≡ sizesOf s .nets) (prepared : Prepared s nets₀ (sizesOf s .nets))
+      (ins-are : ins-list ≡ placesFrom INPUT 0 (netsOf s)) (regs-are : regs-list ≡ placesFrom REG 0 (netsOf s))
+      (ins : Put ins-list row nets₀ nets₁ (length ins-list)) (regs : Put regs-list state nets₁ nets₂ (length regs-list)) where
+    pub put-size : length nets₂ ≡ sizesOf s .nets
+    put-size = regs .size ∙ ins .size ∙ size
+
+    input-put : (i : ℕ) → i < sizesOf s .nets → kindAt s i ≡ INPUT → getD nets₂ i 0 ≡ getD row (count INPUT (take i (netsOf s))) 0
+    input-put i h o = stays REG regs-are regs i h (λ q. omega arith) ∙ has INPUT ins-are ins i h o
+
+    register-put : (i : ℕ) → i < sizesOf s .nets → kindAt s i ≡ REG → getD nets₂ i 0 ≡ getD state (count REG (take i (netsOf s))) 0
+    register-put i h o = has REG regs-are regs i h o
+
+    other-put : (i : ℕ) → i < sizesOf s .nets → (kindAt s i ≡ INPUT → ⊥) → (kindAt s i ≡ REG → ⊥) → getD nets₂ i 0 ≡ getD nets₀ i 0
+    other-put i h f g = stays REG regs-are regs i h g ∙ stays INPUT ins-are ins i h f
+
+    const-put : (i : ℕ) → i < sizesOf s .nets → kindAt s i ≡ CONST → getD nets₂ i 0 ≡ operandAt s (sizesOf s .nets) i 0
+    const-put i h o = other-put i h (λ q. omega arith) (λ q. omega arith) ∙ prepared .constants i h o
+
+    -- all bytes are low where the row's and the state's are
+    pub put-low : Low row → Low state → Low nets₂
+    put-low r t =
+        record {
+          low = λ i.
+              ⊎-elim
+              (λ h.
+              ⊎-elim
+              (λ o. rw (input-put i h o) (r .low (count INPUT (take i (netsOf s)))))
+              (λ f.
+              ⊎-elim
+              (λ o. rw (register-put i h o) (t .low (count REG (take i (netsOf s)))))
+              (λ g. rw (other-put i h f g) (prepared .codes i h))
+              (same-or-not (kindAt s i) REG))
+              (same-or-not (kindAt s i) INPUT))
+              (λ h. beyond nets₂ i (omega (arith, put-size)))
+              (there-or-not i (sizesOf s .nets));
+        }
+
+    -- the gates settled
+    module _ {nets₃ : List ℕ} (w : Settled s nets₂ nets₃ (sizesOf s .nets)) where
+      abbrev seen : ℕ → Walk
+      seen i = sight (netsOf s) row state nets₃ i
+
+      by-kind : (i : ℕ) → i < sizesOf s .nets → getD nets₃ i 0 ≡ netByte gateByte (netAt s (sizesOf s .nets) i) (seen i)
+      by-kind i h =
+          ⊎-elim
+          (λ source.
+          w .sources i source
+          ∙ ⊎-elim
+          (λ o. const-put i h o ∙ sym (const-is s i (seen i) o))
+          (λ f.
+          ⊎-elim
+          (λ o. input-put i h o ∙ sym (input-is s i (seen i) o ∙ getD-drop (count INPUT (take i (netsOf s))) row 0 0 ∙ rw add-zero))
+          (λ g.
+          let o : kindAt s i ≡ REG = only source f g in
+          register-put i h o ∙ sym (register-is s i (seen i) o ∙ getD-drop (count REG (take i (netsOf s))) state 0 0 ∙ rw add-zero))
+          (same-or-not (kindAt s i) INPUT))
+          (same-or-not (kindAt s i) CONST))
+          (λ gate. w .gates i h gate ∙ sym (gate-rule s i (seen i) gate))
+          (there-or-not (kindAt s i) NOT)
+        where
+          only : {k : ℕ} → k < 3 → (k ≡ 0 → ⊥) → (k ≡ 1 → ⊥) → k ≡ 2
+          only h f g = omega arith
+
+      pub settled-bytes : nets₃ ≡ bytesOf gateByte (netsOf s) row state
+      settled-bytes =
+          ruled-bytes out-passes-on (c .nets) row state
+          (record {
+            size = w .size ∙ put-size ∙ sym (length-nets s);
+            byte = λ i d h. let l : i < sizesOf s .nets = omega (arith, length-nets s) in rw (net-in s _ i d refl l) (by-kind i l);
+          })
+          blank
+
+      pub settled-prepared : Prepared s nets₃ (sizesOf s .nets)
+      settled-prepared =
+          record {
+            constants = λ i h o. w .sources i (rw o (lit< tt)) ∙ const-put i h o;
+            codes = λ i h. w .codes .low i;
+          }
+
+-- WHAT A RUN FOUND fits the lent bytes
+pub list-size : (s : List ℕ) (k : ℕ) {list : List ℕ} → list ≡ placesFrom k 0 (netsOf s) → length list ≡ count k (netsOf s)
+list-size s k o = rw o (selection-length (places-selected k) 0 (netsOf s))

@@ -1,0 +1,2 @@
+-- Laws of a cycle whose nets are put and settled.
+pub mod Cycling

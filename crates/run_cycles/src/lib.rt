@@ -1,0 +1,4 @@
+// The cycles of a run.
+mod running;
+
+pub use running::cycles;

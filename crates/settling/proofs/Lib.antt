@@ -1,0 +1,2 @@
+-- Laws of settling one net.
+pub mod Gatewise

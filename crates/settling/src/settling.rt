@@ -1,0 +1,89 @@
+// The bytes of all gates and OUTs of a cycle, in one pass; the other nets have theirs already.
+use gates::CONST;
+use gates::NOT;
+use gates::gate_byte;
+use image::kind_of;
+use image::operand_of;
+use image::sizes_of;
+ghost use mathlib.Core.Path.{_≡_};
+ghost use mathlib.Core.Option.{none};
+ghost use mathlib.Core.Bool.{cond};
+ghost use Prim.Native.Nat.{ℕ, _+_, _<_, _≤_, _%_};
+ghost use lib.Dec.{eqb};
+ghost use lib.ListN.{length};
+ghost use Rattle.gates.specs.Kinds.{CONST, NOT};
+ghost use Rattle.gates.specs.Table.{GateTable};
+ghost use Rattle.image.specs.Image.{sizesOf, kindAt};
+ghost use Rattle.checking.specs.Check.{checkRefusal};
+ghost use Rattle.settling.specs.Settling.{Low, settledAt, Settled, Prepared};
+
+// The byte of a net before the first cycle, by its kind and operand a: a CONST's own, and 0 for the others. No branch on the kind.
+fn first_byte(kind: u8, a: usize) -> u8
+    ensures { λ r. ⌜ r ≡ cond (eqb kind CONST) (a % 2) 0 ⌝ }
+{
+    let constant = (kind == CONST) as u8;
+    constant * (a % 2) as u8
+}
+
+// The bytes before the first cycle: a CONST's own, and 0 elsewhere.
+pub fn set_constants(image: &[u8], n: usize, nets: &mut [u8])
+    requires { ⌜ (checkRefusal (now image) ≡ none) × (n ≡ sizesOf (now image) .nets) × (length (now nets) ≡ n) ⌝ }
+    ensures { λ r. ⌜ Prepared (now (image .entry)) (now (nets .exit)) n ⌝ }
+{
+    let mut i: usize = 0;
+    while i < n {
+        nets[i] = first_byte(kind_of(image, i), operand_of(image, i, 0));
+        i += 1;
+    }
+}
+
+// Net i takes its byte where it is a gate or OUT, and keeps the one that it has where not.
+fn settle(image: &[u8], t: &[u8; 576], i: usize, nets: &mut [u8])
+    requires { ⌜ GateTable (now t) ⌝ }
+    requires { ⌜ (checkRefusal (now image) ≡ none) × (i < sizesOf (now image) .nets) × (length (now nets) ≡ sizesOf (now image) .nets) × Low (now nets) ⌝ }
+    ensures { λ r. ⌜ now (nets .exit) ≡ settledAt (now (image .entry)) i (now (nets .entry)) ⌝ }
+{
+    let kind = kind_of(image, i);
+    if NOT <= kind {
+        let a = operand_of(image, i, 0);
+        let b = operand_of(image, i, 1);
+        let c = operand_of(image, i, 2);
+        nets[i] = gate_byte(t, kind, nets[a], nets[b], nets[c]);
+    }
+}
+
+// The nets from `from` on, four to a turn, as long as there are four; the answer is the first that is left. There is no gate and no OUT
+// below `from`.
+fn settle_fours(image: &[u8], n: usize, t: &[u8; 576], from: usize, nets: &mut [u8]) -> usize
+    requires { ⌜ GateTable (now t) ⌝ }
+    requires { ⌜ (checkRefusal (now image) ≡ none) × (n ≡ sizesOf (now image) .nets) × (length (now nets) ≡ n) × Low (now nets) ⌝ }
+    requires { ⌜ (from ≤ n) × ((i : ℕ) → i < from → kindAt (now image) i < NOT) ⌝ }
+    ensures { λ r. ⌜ (r ≤ n) × Settled (now (image .entry)) (now (nets .entry)) (now (nets .exit)) r ⌝ }
+{
+    let mut i = from;
+    while i + 3 < n {
+        settle(image, t, i, nets);
+        settle(image, t, i + 1, nets);
+        settle(image, t, i + 2, nets);
+        settle(image, t, i + 3, nets);
+        i += 4;
+    }
+    i
+}
+
+// All nets from `from` on. There is no gate and no OUT below it. N is read here, ahead of the first store to the nets, so that the compiler
+// has it at hand for every operand that is read through the view.
+pub fn settle_nets(image: &[u8], t: &[u8; 576], from: usize, nets: &mut [u8])
+    requires { ⌜ GateTable (now t) ⌝ }
+    requires { ⌜ (checkRefusal (now image) ≡ none) × (length (now nets) ≡ sizesOf (now image) .nets) × Low (now nets) ⌝ }
+    requires { ⌜ (from ≤ sizesOf (now image) .nets) × ((i : ℕ) → i < from → kindAt (now image) i < NOT) ⌝ }
+    ensures { λ r. ⌜ Settled (now (image .entry)) (now (nets .entry)) (now (nets .exit)) (sizesOf (now (image .entry)) .nets) ⌝ }
+{
+    let z = sizes_of(image);
+    let n = z.nets;
+    let mut i = settle_fours(image, n, t, from, nets);
+    while i < n {
+        settle(image, t, i, nets);
+        i += 1;
+    }
+}

@@ -1,0 +1,4 @@
+-- Laws of numbers in decimal, and of texts that are put one behind the other.
+pub mod Decimal
+pub mod Numbers
+pub mod Putting
