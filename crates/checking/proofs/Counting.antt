@@ -10,7 +10,7 @@ use lib.Seq.{ext-getD, getD-set-same, getD-set-other}
 use borrow.Author.Tests.{eqb-true, eqb-false}
 use Rattle.image.specs.declared.image.Net.{Net}
 use Rattle.image.specs.Image.{count}
-use Rattle.checking.specs.Counts.{kindCounts}
+use Rattle.checking.specs.Counts.{kindCounts, raised}
 
 -- there are nine counts, and at place k stands the number of nets of kind k
 pub counts-length : (xs : List Net) → length (kindCounts xs) ≡ 9
@@ -29,10 +29,6 @@ count-at (suc (suc (suc (suc (suc (suc zero)))))) xs h = refl
 count-at (suc (suc (suc (suc (suc (suc (suc zero))))))) xs h = refl
 count-at (suc (suc (suc (suc (suc (suc (suc (suc zero)))))))) xs h = refl
 count-at (suc (suc (suc (suc (suc (suc (suc (suc (suc k))))))))) xs h = absurd (omega arith)
-
--- counts with one place raised
-abbrev pub raised : List ℕ → (k : ℕ) → List ℕ
-raised counts k = set counts k (getD counts k 0 + 1)
 
 -- the nets of one kind, with one more net
 count-more : (k : ℕ) (xs : List Net) (x : Net) → count k (xs ++ (x ∷ [])) ≡ count k xs + cond (eqb (x .kind) k) 1 0

@@ -12,7 +12,7 @@ use Rattle.cycle.specs.Cycle.{FirstFlow, outputsFrom}
 use Rattle.cycle.specs.Calls.{Answer, done, refused, Stepped, powerUpOf, runOf, runRefusal}
 use Rattle.cycle.proofs.Calls.{either-way, run-none}
 use Rattle.groups.specs.Groups.{split}
-use Rattle.doubling.specs.Doubled.{doubleRefusal, doubleOf}
+use Rattle.doubling.specs.Doubling.{doubleRefusal, doubleOf}
 use Rattle.doubling.proofs.Checks.{doubled-sizes, double-none, double-refused, double-accepted}
 use Rattle.doubling.proofs.Simulation.{split-append}
 use Rattle.claims.specs.Steps.{stepsOf, outputsIn}

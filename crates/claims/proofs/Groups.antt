@@ -1,7 +1,7 @@
 -- The groups of one net of each kind, by computation.
 use mathlib.Core.Path.{refl}
 use Rattle.groups.specs.Groups.{groupLengths, groupLength, groupOf}
-use Rattle.doubling.specs.Doubled.{doubledSize, valueNet, markNet, groupsFrom, doubledNets}
+use Rattle.doubled.specs.Doubled.{doubledSize, valueNet, markNet, groupsFrom, doubledNets}
 use Rattle.claims.specs.Groups.{oneOfEach, theirGroups, Groups}
 
 pub groups : Groups

@@ -13,7 +13,8 @@ use Rattle.cycle.specs.Cycle.{Cycle}
 use Rattle.cycle.specs.Calls.{stateLength, starts, powerUpOf, asStep, stepRefusal, runRefusal}
 use Rattle.cycle.proofs.Calls.{IsState, step-none, run-none, starts-state, powered-up, cycle-state, run-state}
 use Rattle.groups.specs.Groups.{split}
-use Rattle.doubling.specs.Doubled.{doubledSize, doubledImage}
+use Rattle.doubled.specs.Doubled.{doubledSize}
+use Rattle.doubling.specs.Doubling.{doubledImage}
 use Rattle.doubling.proofs.Checks.{doubled-sizes, double-none, double-accepted}
 use Rattle.doubling.proofs.Runs.{Doubles, state-doubles, ready-again, cycle-doubles, cycles-double, power-up-again}
 use Rattle.claims.specs.History.{Call, refusalOf, callResult, history, accepted, cyclesIn, Finished, AllFinished}

@@ -19,7 +19,8 @@ use Rattle.net_checking.specs.NetCheck.{badPin, badValue, badUnlisted, netRefus
 use Rattle.checking.specs.Check.{wrongCounts, netsRefusal, checkRefusal}
 use Rattle.cycle.specs.Calls.{stateLength, refused, lentRefusal, powerUpRefusal, powerUpOf, stepRefusal, stepOf, asStep, runRefusal, runOf, asRun}
 use Rattle.cycle.proofs.Calls.{power-up-accepted, power-up-refused, step-accepted, step-refused, run-accepted, run-refused}
-use Rattle.doubling.specs.Doubled.{doubledSize, doubleRefusal, doubleOf}
+use Rattle.doubled.specs.Doubled.{doubledSize}
+use Rattle.doubling.specs.Doubling.{doubleRefusal, doubleOf}
 use Rattle.doubling.proofs.Checks.{double-accepted, double-refused}
 use Rattle.claims.specs.Accepted.{Sized, NoneAbove3, AcceptedImage, AcceptedState}
 use Rattle.claims.specs.Refused.{AnyCall, check, power-up, step, run, double, Gives, BadNet, kind, pin, value, unlisted, BadImage, short, no-nets, many-nets, inexact, bad-net, miscounted, FirstAbove3, BadLent, state-size, state-byte, row-size, row-byte, buffer-size, Refused, bad-image, bad-state, bad-step, many-cycles, bad-run, doubled-large, doubled-size, Refusals}

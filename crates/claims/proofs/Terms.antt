@@ -10,7 +10,7 @@ use Rattle.gates.specs.Relations.{same}
 use Rattle.image.specs.Image.{sizesOf, netsOf, count}
 use Rattle.image.proofs.Nets.{length-nets}
 use Rattle.cycle.specs.Cycle.{cycleOf}
-use Rattle.doubling.proofs.Positions.{value-end}
+use Rattle.doubled.proofs.Positions.{value-end}
 use Rattle.claims.specs.Terms.{Terms}
 
 marked : (x : ℕ) → x ≤ 3 → (mark x ≡ true) ↔ (x / 2 ≡ 1)

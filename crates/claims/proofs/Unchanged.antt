@@ -6,7 +6,7 @@ use native.Mathlib.Omega.{arith}
 use Rattle.refusals.specs.declared.answer.Refusal.{Refusal}
 use Rattle.cycle.specs.Calls.{done, refused, powerUpRefusal, asStep, stepRefusal, asRun, runRefusal}
 use Rattle.cycle.proofs.Calls.{either-way, power-up-accepted, power-up-refused, step-accepted, step-refused, run-accepted, run-refused}
-use Rattle.doubling.specs.Doubled.{doubleRefusal}
+use Rattle.doubling.specs.Doubling.{doubleRefusal}
 use Rattle.doubling.proofs.Checks.{double-accepted, double-refused}
 use Rattle.claims.specs.Unchanged.{Unchanged}
 

@@ -10,7 +10,8 @@ use Rattle.image.specs.declared.image.Net.{Net}
 use Rattle.image.specs.Image.{sizesOf, netsOf, count}
 use Rattle.checking.specs.Check.{checkRefusal}
 use Rattle.cycle.specs.Calls.{stateLength, powerUpRefusal, stepRefusal, runRefusal}
-use Rattle.doubling.specs.Doubled.{doubledSize, doubleRefusal}
+use Rattle.doubled.specs.Doubled.{doubledSize}
+use Rattle.doubling.specs.Doubling.{doubleRefusal}
 use Rattle.claims.specs.Reading.{netOf}
 
 -- 1 to 3 do not apply

@@ -8,7 +8,8 @@ use Rattle.gates.specs.Kinds.{REG, OUT}
 use Rattle.image.specs.Image.{sizesOf, net, netsOf}
 use Rattle.checking.specs.Check.{checkRefusal}
 use Rattle.groups.specs.Groups.{groupLength}
-use Rattle.doubling.specs.Doubled.{groupAt, doubledSize, valueNet, markNet, doubledNets, doubledImage, doubleRefusal, doubleOf}
+use Rattle.doubled.specs.Doubled.{groupAt, doubledSize, valueNet, markNet, doubledNets}
+use Rattle.doubling.specs.Doubling.{doubledImage, doubleRefusal, doubleOf}
 use Rattle.claims.specs.NetBytes.{netOf}
 
 -- every image that doubling writes passes checking, so 17 is never given; proved as `doubled-checks`

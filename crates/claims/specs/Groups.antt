@@ -5,7 +5,7 @@ use mathlib.Core.List.{List, [], _∷_, _++_}
 use Rattle.gates.specs.Kinds.{CONST, INPUT, REG, NOT, AND, OR, XOR, MUX, OUT}
 use Rattle.image.specs.declared.image.Net.{Net}
 use Rattle.image.specs.Image.{net}
-use Rattle.doubling.specs.Doubled.{valueNet, markNet, groupAt, doubledSize, doubledNets}
+use Rattle.doubled.specs.Doubled.{valueNet, markNet, groupAt, doubledSize, doubledNets}
 
 -- 0 CONST 1; 1 INPUT; 2 REG(7, no start given); 3 NOT 1; 4 AND(1, 3); 5 OR(1, 4); 6 XOR(3, 5); 7 MUX(4, 5, 6); 8 OUT 7, protected
 unfoldable pub oneOfEach : List Net

@@ -9,7 +9,7 @@ use Rattle.gates.specs.Kinds.{OUT}
 use Rattle.image.specs.Image.{sizesOf}
 use Rattle.cycle.specs.Cycle.{Verdict, clear, FirstFlow}
 use Rattle.cycle.specs.Calls.{Answer, done, powerUpOf, Stepped, stepOf, Ran, runOf}
-use Rattle.doubling.specs.Doubled.{doubleOf}
+use Rattle.doubling.specs.Doubling.{doubleOf}
 use Rattle.claims.specs.NetBytes.{netOf, placeOf}
 
 -- a run of k cycles from power-up, of a state that held the bytes a before

@@ -9,7 +9,8 @@ use Rattle.checking.specs.Check.{checkRefusal}
 use Rattle.cycle.specs.Cycle.{outputsFrom}
 use Rattle.cycle.specs.Calls.{stateLength, Stepped, powerUpOf}
 use Rattle.groups.specs.Groups.{split}
-use Rattle.doubling.specs.Doubled.{doubledSize, doubleOf}
+use Rattle.doubled.specs.Doubled.{doubledSize}
+use Rattle.doubling.specs.Doubling.{doubleOf}
 use Rattle.claims.specs.History.{Call, step, run, history, accepted, cyclesIn, AllFinished, AllMade}
 
 -- a call made again on the doubled image d: each row byte as two, and any buffer of the right length

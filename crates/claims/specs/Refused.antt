@@ -11,7 +11,8 @@ use Rattle.image.specs.Image.{sizesOf, netsOf}
 use Rattle.refusals.specs.declared.answer.Refusal.{Refusal}
 use Rattle.checking.specs.Check.{checkRefusal}
 use Rattle.cycle.specs.Calls.{stateLength, refused, powerUpOf, stepOf, runOf}
-use Rattle.doubling.specs.Doubled.{doubledSize, doubleOf}
+use Rattle.doubled.specs.Doubled.{doubledSize}
+use Rattle.doubling.specs.Doubling.{doubleOf}
 use Rattle.claims.specs.Reading.{netOf}
 use Rattle.claims.specs.Accepted.{Sized, PinsBelow, ValuesListed, UnlistedZero, NetsAccepted, RightCounts, AcceptedImage, AcceptedState, AcceptedRows}
 

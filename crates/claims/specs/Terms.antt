@@ -10,7 +10,7 @@ use Rattle.gates.specs.Relations.{AgreeByte}
 use Rattle.image.specs.declared.image.Net.{Net}
 use Rattle.image.specs.Image.{sizesOf, netsOf, count}
 use Rattle.cycle.specs.Cycle.{cycleOf, outputsFrom}
-use Rattle.doubling.specs.Doubled.{doubledSize, valueNet}
+use Rattle.doubled.specs.Doubled.{doubledSize, valueNet}
 
 -- proved as `terms`
 pub record Terms : Type 0 where

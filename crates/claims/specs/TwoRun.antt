@@ -9,7 +9,8 @@ use Rattle.image.specs.Image.{sizesOf, netsOf}
 use Rattle.refusals.specs.declared.answer.Refusal.{Refusal}
 use Rattle.checking.specs.Check.{checkRefusal}
 use Rattle.cycle.specs.Calls.{stateLength, Stepped, powerUpOf}
-use Rattle.doubling.specs.Doubled.{doubledSize, doubleOf}
+use Rattle.doubled.specs.Doubled.{doubledSize}
+use Rattle.doubling.specs.Doubling.{doubleOf}
 use Rattle.claims.specs.History.{Call, step, run, CallResult, history, accepted, cyclesIn, TurnedBack, Finished, AllFinished, Made, AllMade}
 use Rattle.claims.specs.Pairing.{Again, shown}
 

@@ -5,7 +5,7 @@ use mathlib.Core.List.{List}
 use mathlib.Core.Option.{some}
 use Rattle.refusals.specs.declared.answer.Refusal.{Refusal}
 use Rattle.cycle.specs.Calls.{refused, powerUpOf, stepOf, runOf}
-use Rattle.doubling.specs.Doubled.{doubleOf}
+use Rattle.doubling.specs.Doubling.{doubleOf}
 
 -- proved as `unchanged`
 pub record Unchanged : Type 0 where

@@ -11,7 +11,7 @@ use Rattle.image.proofs.Nets.{count-most}
 use Rattle.refusals.specs.declared.answer.Refusal.{Refusal}
 use Rattle.checking.specs.Check.{checkRefusal}
 use Rattle.cycle.specs.Calls.{powerUpOf}
-use Rattle.doubling.specs.Doubled.{doubleOf}
+use Rattle.doubling.specs.Doubling.{doubleOf}
 use Rattle.claims.specs.Accepted.{AcceptedImage}
 use Rattle.claims.specs.Refused as table
 use Rattle.claims.specs.Refused.{AnyCall, Gives, BadNet, BadImage, BadLent, Refused}

@@ -10,7 +10,7 @@ use Rattle.refusals.specs.Refusals.{refusal}
 use Rattle.checking.specs.Check.{checkRefusal}
 use Rattle.cycle.specs.Cycle.{Verdict, clear, flow, FirstFlow}
 use Rattle.cycle.specs.Calls.{Answer, done, refused, powerUpOf, stepOf, runOf}
-use Rattle.doubling.specs.Doubled.{doubleOf}
+use Rattle.doubling.specs.Doubling.{doubleOf}
 use Rattle.codes.specs.Codes.{refusalCode, outcomeCode, verdictCode, firstFlowCode, answerCode}
 
 -- a refusal: its number stands above its place

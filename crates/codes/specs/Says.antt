@@ -8,7 +8,7 @@ use lib.ListN.{length}
 use Rattle.image.specs.Image.{netsOf}
 use Rattle.checking.specs.Check.{checkRefusal}
 use Rattle.cycle.specs.Calls.{powerUpOf, stepOf, runOf}
-use Rattle.doubling.specs.Doubled.{doubleOf}
+use Rattle.doubling.specs.Doubling.{doubleOf}
 use Rattle.claims.specs.Accepted.{AcceptedImage}
 use Rattle.claims.specs.Refused.{AnyCall, Refused}
 use Rattle.claims.specs.Verdicts.{MarkedOutput}

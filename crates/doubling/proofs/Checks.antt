@@ -20,8 +20,9 @@ use Rattle.checking.specs.Check.{checkRefusal}
 use Rattle.checking.proofs.Checked.{AllPass, nil, cons, Checked, check-none}
 use Rattle.checking.proofs.Encoded.{encode-bytes}
 use Rattle.groups.specs.Groups.{groupOf}
-use Rattle.doubling.specs.Doubled.{doubledSize, valueNet, markNet, groupAt, groupsFrom, doubledNets, pairedSizes, doubledImage, doubleRefusal, doubleOf}
-use Rattle.doubling.proofs.Positions.{two-or-more, doubled-length, doubled-passes}
+use Rattle.doubled.specs.Doubled.{doubledSize, valueNet, markNet, groupAt, groupsFrom, doubledNets}
+use Rattle.doubling.specs.Doubling.{pairedSizes, doubledImage, doubleRefusal, doubleOf}
+use Rattle.doubled.proofs.Positions.{two-or-more, doubled-length, doubled-passes}
 
 -- the kinds that are counted
 data Counted : ℕ → Type 0 where

@@ -23,8 +23,8 @@ use Rattle.cycle.proofs.Walks.{walk-append}
 use Rattle.cycle.proofs.Selections.{Selection, outputs-selected, registers-selected, selection-append}
 use Rattle.groups.specs.Groups.{groupLength, groupLengths, groupOf, split}
 use Rattle.groups.proofs.Groups.{at, past-gate, walked-all, comes-length, Splits, byte-splits, const-splits, Bits, Group, not-group, and-group, or-group, xor-group, mux-group, out-group, reg-starts}
-use Rattle.doubling.specs.Doubled.{doubledSize, valueNet, markNet, groupAt, groupsFrom, doubledNets}
-use Rattle.doubling.proofs.Positions.{below-or, Laid, end, next, laid, group-length, value-below, mark-below, mark-second}
+use Rattle.doubled.specs.Doubled.{doubledSize, valueNet, markNet, groupAt, groupsFrom, doubledNets}
+use Rattle.doubled.proofs.Positions.{below-or, Laid, end, next, laid, group-length, value-below, mark-below, mark-second}
 
 -- SPLIT BYTES
 pub split-append : (xs ys : List ℕ) → split (xs ++ ys) ≡ split xs ++ split ys

@@ -1,7 +1,7 @@
 // The call that doubles an image into a lent buffer.
-use crate::lengths::starts_of;
 use crate::writing::write_image;
 use checking::check;
+use doubled::starts_of;
 use image::sizes_of;
 use refusals::Outcome;
 use refusals::refused;
@@ -11,7 +11,7 @@ ghost use Prim.Native.Nat.{_+_, _*_};
 ghost use lib.Dec.{eqb, ltb};
 ghost use lib.ListN.{length, replicate};
 ghost use Rattle.refusals.specs.Refusals.{refuse, _then_, refusalIn};
-ghost use Rattle.doubling.specs.Doubled.{doubleOf};
+ghost use Rattle.doubling.specs.Doubling.{doubleOf};
 ghost use Rattle.doubling.specs.Answers.{doubled};
 
 // 15 and 16, by the doubled size and the length of the lent buffer.

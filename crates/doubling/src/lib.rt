@@ -1,6 +1,5 @@
 // The doubled netlist, in which the tracking is ordinary gates.
 mod doubling;
-mod lengths;
 mod pins;
 mod writing;
 

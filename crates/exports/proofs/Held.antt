@@ -17,7 +17,8 @@ use Rattle.checking.specs.Check.{checkRefusal}
 use Rattle.cycle.specs.Cycle.{Verdict, clear, flow, outputsFrom, cycleOf, FirstFlow}
 use Rattle.cycle.specs.Calls.{stateLength, done, powerUpRefusal, powerUpOf, Stepped, stepOf, stepRefusal, Ran, runOf, runRefusal}
 use Rattle.groups.specs.Groups.{groupLength, split}
-use Rattle.doubling.specs.Doubled.{groupAt, doubledSize, valueNet, markNet, doubledNets, doubledImage, doubleRefusal, doubleOf}
+use Rattle.doubled.specs.Doubled.{groupAt, doubledSize, valueNet, markNet, doubledNets}
+use Rattle.doubling.specs.Doubling.{doubledImage, doubleRefusal, doubleOf}
 use Rattle.claims.specs.Reading.{twoBytes}
 use Rattle.claims.specs.Accepted.{AcceptedImage}
 use Rattle.claims.specs.Examples.{counted, twoRows}

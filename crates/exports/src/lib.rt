@@ -5,7 +5,7 @@ use codes::step_code;
 ghost use mathlib.Core.Path.{_≡_};
 ghost use Rattle.checking.specs.Check.{checkRefusal};
 ghost use Rattle.cycle.specs.Calls.{powerUpOf, stepOf, runOf};
-ghost use Rattle.doubling.specs.Doubled.{doubleOf};
+ghost use Rattle.doubling.specs.Doubling.{doubleOf};
 ghost use Rattle.codes.specs.Codes.{outcomeCode, verdictCode, firstFlowCode, answerCode};
 
 // Whether an image is accepted.

@@ -1,7 +1,7 @@
 -- `exports::tracker_double` meets its contract: the number of what doubling answers, which fits, and the bytes that it leaves.
 use mathlib.Core.Path.{ap, _∙_}
 use borrow.Author.Needs.{needs}
-use Rattle.doubling.specs.Doubled.{Doubling}
+use Rattle.doubling.specs.Doubling.{Doubling}
 use Rattle.codes.specs.Codes.{outcomeCode}
 use Rattle.codes.proofs.Given.{doubled-given}
 use Rattle.codes.proofs.Small.{outcome-fits}

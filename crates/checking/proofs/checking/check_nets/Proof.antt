@@ -17,9 +17,9 @@ use Rattle.refusals.specs.Refusals.{refusalIn, _then_}
 use Rattle.net_checking.specs.Limits.{limitsOf}
 use Rattle.net_checking.specs.NetCheck.{netRefusal}
 use Rattle.net_checking.proofs.Passes.{passes, kind-most}
-use Rattle.checking.specs.Counts.{kindCounts}
+use Rattle.checking.specs.Counts.{kindCounts, raised}
 use Rattle.checking.specs.Check.{netsRefusal}
-use Rattle.checking.proofs.Counting.{raised, count-at, counts-raised}
+use Rattle.checking.proofs.Counting.{count-at, counts-raised}
 use Rattle.checking.proofs.checking.check_nets.Statement.{statement}
 use Rattle.checking.proofs.checking.check_nets.Tie as tie
 

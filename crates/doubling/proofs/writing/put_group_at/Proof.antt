@@ -10,8 +10,8 @@ use Rattle.image.specs.Image.{sizesOf, netAt, netsOf}
 use Rattle.image.specs.Writing.{putNets}
 use Rattle.net_checking.proofs.Passes.{Passes, kind-most, Small, operands-small}
 use Rattle.checking.proofs.Checked.{Checked, check-none, net-passes}
-use Rattle.doubling.specs.Doubled.{valueNet, markNet}
-use Rattle.doubling.proofs.Sums.{start-positive, pair-is, group-pinned}
+use Rattle.doubled.specs.Doubled.{valueNet, markNet}
+use Rattle.doubled.proofs.Sums.{start-positive, pair-is, group-pinned}
 use Rattle.doubling.proofs.writing.put_group_at.Statement.{statement}
 use Rattle.doubling.proofs.writing.put_group_at.Tie as tie
 

@@ -8,8 +8,8 @@ use Rattle.image.specs.Image.{netsOf}
 use Rattle.image.specs.Writing.{putNets}
 use Rattle.image.proofs.Nets.{netsLeft, nets-left, nets-done}
 use Rattle.checking.proofs.Checked.{Checked, check-none}
-use Rattle.doubling.specs.Doubled.{groupsFrom, valueNet, doubledNets}
-use Rattle.doubling.proofs.Sums.{start-zero}
+use Rattle.doubled.specs.Doubled.{groupsFrom, valueNet, doubledNets}
+use Rattle.doubled.proofs.Sums.{start-zero}
 use Rattle.doubling.proofs.Laying.{one-group, group-ends}
 use Rattle.doubling.proofs.writing.put_groups.Statement.{statement}
 use Rattle.doubling.proofs.writing.put_groups.Tie as tie

@@ -20,7 +20,7 @@ use Rattle.image.proofs.Encoding.{nothing}
 use Rattle.net_checking.proofs.Passes.{kind-most, Passes, is-const, is-input, is-reg, is-not, is-and, is-or, is-xor, is-mux, is-out}
 use Rattle.checking.proofs.Checked.{AllPass, nil, cons}
 use Rattle.groups.specs.Groups.{groupLengths, groupLength, groupOf}
-use Rattle.doubling.specs.Doubled.{doubledSize, valueNet, markNet, groupAt, groupsFrom, doubledNets}
+use Rattle.doubled.specs.Doubled.{doubledSize, valueNet, markNet, groupAt, groupsFrom, doubledNets}
 
 pub below-or : (j i : ℕ) → j < suc i → (j < i) ⊎ (j ≡ i)
 below-or j i h = elim (decLt j i) [ yes k ↦ inl k | no k ↦ inr (omega arith) ]

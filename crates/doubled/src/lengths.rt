@@ -5,13 +5,13 @@ ghost use mathlib.Core.Option.{none};
 ghost use Rattle.image.specs.Image.{sizesOf, netsOf};
 ghost use Rattle.checking.specs.Check.{checkRefusal};
 ghost use Rattle.groups.specs.Groups.{groupLengths};
-ghost use Rattle.doubling.specs.Starts.{Starts};
+ghost use Rattle.doubled.specs.Starts.{Starts};
 
 // The group lengths for kinds 0 to 8.
 const GROUP_LENGTHS: [u16; 9] = [2, 2, 2, 2, 6, 8, 2, 7, 2];
 
 // The table by value. It is taken once a call, since a constant is copied to the stack wherever it is named.
-fn group_lengths() -> [u16; 9]
+pub fn group_lengths() -> [u16; 9]
     ensures { λ r. ⌜ r ≡ groupLengths ⌝ }
 {
     GROUP_LENGTHS

@@ -1,10 +1,10 @@
--- A term of the contracts between doubling's own functions. No public call's contract uses it.
+-- A term of the contracts between functions that double. No public call's contract uses it.
 use Prim.Native.Nat.{ℕ, _≤_}
 use mathlib.Core.Path.{_≡_}
 use mathlib.Core.List.{List}
 use lib.ListN.{getD}
 use Rattle.image.specs.declared.image.Net.{Net}
-use Rattle.doubling.specs.Doubled.{valueNet}
+use Rattle.doubled.specs.Doubled.{valueNet}
 
 -- where the group of each net begins; behind the last net, the doubled size
 abbrev pub Starts : List ℕ → List Net → Type 0

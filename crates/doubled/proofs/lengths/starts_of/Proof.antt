@@ -1,4 +1,4 @@
--- `doubling::lengths::starts_of` meets its contract. At net i the starts to net i stand in the array; behind the last net they are the doubled size.
+-- `doubled::lengths::starts_of` meets its contract. At net i the starts to net i stand in the array; behind the last net they are the doubled size.
 use Prim.Native.Nat.{_+_, _-_, _≤_, _<_}
 use native.Mathlib.Omega.{arith}
 use mathlib.Core.Path.{_≡_, refl, sym, _∙_}
@@ -9,11 +9,11 @@ use Rattle.image.proofs.Nets.{length-nets}
 use Rattle.net_checking.proofs.Passes.{kind-most}
 use Rattle.checking.proofs.Checked.{Checked, check-none, net-passes}
 use Rattle.groups.specs.Groups.{groupLength}
-use Rattle.doubling.specs.Doubled.{doubledSize, valueNet}
-use Rattle.doubling.proofs.Positions.{value-end}
-use Rattle.doubling.proofs.Sums.{Summed, start-zero, summed-begins, summed-next, next-start, starts-fit}
-use Rattle.doubling.proofs.lengths.starts_of.Statement.{statement}
-use Rattle.doubling.proofs.lengths.starts_of.Tie as tie
+use Rattle.doubled.specs.Doubled.{doubledSize, valueNet}
+use Rattle.doubled.proofs.Positions.{value-end}
+use Rattle.doubled.proofs.Sums.{Summed, start-zero, summed-begins, summed-next, next-start, starts-fit}
+use Rattle.doubled.proofs.lengths.starts_of.Statement.{statement}
+use Rattle.doubled.proofs.lengths.starts_of.Tie as tie
 
 abbrev Inv-loop : tie.InvT-loop
 Inv-loop image n lengths starts₀ size₀ i₀ starts size i =

@@ -1,41 +1,15 @@
--- The doubled netlist: the groups of all nets, one after the other, as an image; and the call that writes it.
-use Prim.Native.Nat.{ℕ, suc, _+_, _*_, _-_}
-use mathlib.Core.List.{List, [], _∷_, _++_}
+-- The image of the doubled netlist, and the call that writes it.
+use Prim.Native.Nat.{ℕ, _+_, _*_}
+use mathlib.Core.List.{List}
 use mathlib.Core.Option.{Option, none, some}
 use lib.Dec.{ltb}
-use lib.ListN.{length, take, replicate}
+use lib.ListN.{length, replicate}
 use Rattle.image.specs.declared.image.Sizes.{Sizes}
-use Rattle.image.specs.declared.image.Net.{Net}
 use Rattle.image.specs.Image.{sizesOf, netsOf, encode}
 use Rattle.refusals.specs.declared.answer.Refusal.{Refusal}
 use Rattle.refusals.specs.Refusals.{refusal, refuse, _then_, badLength}
 use Rattle.checking.specs.Check.{checkRefusal}
-use Rattle.groups.specs.Groups.{groupLength, groupOf}
-
--- how many nets the groups of some nets have
-unfoldable pub doubledSize : List Net → ℕ
-doubledSize [] = 0
-doubledSize (x ∷ xs) = groupLength (x .kind) + doubledSize xs
-
--- the value net and the mark net of net i: the first and the last of its group
-unfoldable pub valueNet : List Net → (i : ℕ) → ℕ
-valueNet xs i = doubledSize (take i xs)
-
-unfoldable pub markNet : List Net → (i : ℕ) → ℕ
-markNet xs i = doubledSize (take (suc i) xs) - 1
-
--- the group of y, which is net i of xs
-abbrev pub groupAt : List Net → (i : ℕ) → Net → List Net
-groupAt xs i y = groupOf (valueNet xs i) y (valueNet xs) (markNet xs)
-
--- the groups of the nets ys, the first of which is net i of xs
-unfoldable pub groupsFrom : List Net → (i : ℕ) → List Net → List Net
-groupsFrom xs i [] = []
-groupsFrom xs i (y ∷ ys) = groupAt xs i y ++ groupsFrom xs (suc i) ys
-
--- the doubled netlist of the nets xs
-unfoldable pub doubledNets : List Net → List Net
-doubledNets xs = groupsFrom xs 0 xs
+use Rattle.doubled.specs.Doubled.{doubledSize, doubledNets}
 
 -- the sizes of the doubled netlist: its nets, and twice the inputs, registers and outputs of the source
 abbrev pub pairedSizes : List ℕ → Sizes

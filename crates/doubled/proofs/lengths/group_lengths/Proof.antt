@@ -1,8 +1,8 @@
--- `doubling::lengths::group_lengths` meets its contract: the table is the definition's list.
+-- `doubled::lengths::group_lengths` meets its contract: the table is the definition's list.
 use mathlib.Core.Path.{refl}
 use Rattle.groups.specs.Groups.{groupLengths}
-use Rattle.doubling.proofs.lengths.group_lengths.Statement.{statement}
-use Rattle.doubling.proofs.lengths.group_lengths.Tie as tie
+use Rattle.doubled.proofs.lengths.group_lengths.Statement.{statement}
+use Rattle.doubled.proofs.lengths.group_lengths.Tie as tie
 
 returns : tie.Need-returns
 unfolding groupLengths

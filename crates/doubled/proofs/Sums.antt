@@ -15,9 +15,9 @@ use Rattle.image.proofs.Encoding.{nothing}
 use Rattle.net_checking.proofs.Passes.{Passes, is-const, is-input, is-reg, is-not, is-and, is-or, is-xor, is-mux, is-out}
 use Rattle.checking.proofs.Checked.{AllPass, nil, cons, Checked}
 use Rattle.groups.specs.Groups.{groupLengths, groupLength, groupBy, groupOf}
-use Rattle.doubling.specs.Doubled.{doubledSize, valueNet, markNet, groupAt}
-use Rattle.doubling.specs.Starts.{Starts}
-use Rattle.doubling.proofs.Positions.{below-or, two-to-eight, two-or-more, value-next, value-up}
+use Rattle.doubled.specs.Doubled.{doubledSize, valueNet, markNet, groupAt}
+use Rattle.doubled.specs.Starts.{Starts}
+use Rattle.doubled.proofs.Positions.{below-or, two-to-eight, two-or-more, value-next, value-up}
 
 -- THE LARGEST SIZE
 -- net 0 has no pin below it: it is a CONST, an INPUT or a REG

@@ -1,0 +1,3 @@
+-- Laws of the doubled netlist.
+pub mod Positions
+pub mod Sums

@@ -1,0 +1,37 @@
+-- How big the doubled netlist gets: its nets, its bytes, and how many nets of each kind it holds.
+use Prim.Native.Nat.{ℕ, _+_, _*_}
+use mathlib.Core.List.{List}
+use mathlib.Core.Option.{Option, none, some}
+use lib.Dec.{ltb}
+use lib.ListN.{replicate}
+use Rattle.image.specs.Image.{netsOf}
+use Rattle.refusals.specs.declared.answer.Refusal.{Refusal}
+use Rattle.refusals.specs.Refusals.{refuse, _then_}
+use Rattle.checking.specs.Check.{checkRefusal}
+use Rattle.checking.specs.Counts.{kindCounts}
+use Rattle.doubled.specs.Doubled.{doubledSize, doubledNets}
+
+-- what the call gives: the refusal, or none; the nets and the bytes of the doubled netlist; and how many nets of each kind, 0 to 8, it holds
+pub record Figures : Type 0 where
+  pub refusal : Option Refusal
+  pub nets : ℕ
+  pub bytes : ℕ
+  pub kinds : List ℕ
+
+-- 1 to 8 and 15
+unfoldable pub sizeRefusal : List ℕ → Option Refusal
+sizeRefusal s = checkRefusal s then refuse (ltb 8192 (doubledSize (netsOf s))) 15 0
+
+-- the figures, all of them 0 beside a refusal
+unfoldable pub doubledSizeOf : List ℕ → Figures
+doubledSizeOf s =
+    elim (sizeRefusal s) [
+      | none ↦
+          record {
+            refusal = none;
+            nets = doubledSize (netsOf s);
+            bytes = 8 + 7 * doubledSize (netsOf s);
+            kinds = kindCounts (doubledNets (netsOf s));
+          }
+      | some r ↦ record { refusal = some r; nets = 0; bytes = 0; kinds = replicate 9 0 }
+    ]

@@ -1,0 +1,73 @@
+// The nets of the doubled netlist, counted by kind.
+use doubled::group_lengths;
+use image::kind_of;
+ghost use mathlib.Core.Path.{_≡_};
+ghost use mathlib.Core.Option.{none};
+ghost use Prim.Native.Nat.{_≤_, _<_};
+ghost use Rattle.image.specs.Image.{sizesOf, netsOf};
+ghost use Rattle.checking.specs.Check.{checkRefusal};
+ghost use Rattle.checking.specs.Counts.{kindCounts, raised};
+ghost use Rattle.doubled.specs.Doubled.{doubledSize, doubledNets};
+ghost use Rattle.figures.specs.Tables.{groupKinds, places, raisedBy, NoneAbove};
+
+// The kinds of the nets of each group, eight places for each of kinds 0 to 8.
+const GROUP_KINDS: [u8; 72] = [
+    0, 0, 0, 0, 0, 0, 0, 0, //
+    1, 1, 0, 0, 0, 0, 0, 0, //
+    2, 2, 0, 0, 0, 0, 0, 0, //
+    3, 5, 0, 0, 0, 0, 0, 0, //
+    4, 4, 4, 4, 5, 5, 0, 0, //
+    5, 3, 3, 4, 4, 4, 5, 5, //
+    6, 5, 0, 0, 0, 0, 0, 0, //
+    7, 5, 5, 5, 4, 7, 5, 0, //
+    8, 8, 0, 0, 0, 0, 0, 0, //
+];
+
+// The table by value, taken once a call.
+fn group_kinds() -> [u8; 72]
+    ensures { λ r. ⌜ r ≡ groupKinds ⌝ }
+{
+    GROUP_KINDS
+}
+
+// One more net of a kind.
+fn raise(counts: [u16; 9], kind: u8) -> [u16; 9]
+    requires { ⌜ (kind < 9) × NoneAbove 65534 counts ⌝ }
+    ensures { λ r. ⌜ r ≡ raised counts kind ⌝ }
+{
+    let mut more = counts;
+    more[kind as usize] += 1;
+    more
+}
+
+// One more net of each kind that the table has at the places from j to end, without end.
+fn count_group(counts: [u16; 9], kinds: &[u8; 72], first: usize, end: usize) -> [u16; 9]
+    requires { ⌜ (now kinds ≡ groupKinds) × (first ≤ end) × (end ≤ 72) × NoneAbove 8192 counts ⌝ }
+    ensures { λ r. ⌜ r ≡ raisedBy counts (places groupKinds first end) ⌝ }
+{
+    let mut more = counts;
+    let mut j = first;
+    while j < end {
+        more = raise(more, kinds[j]);
+        j += 1;
+    }
+    more
+}
+
+// The nets of each kind of the doubled netlist of an accepted image, group by group.
+pub fn count_kinds(image: &[u8], n: usize) -> [u16; 9]
+    requires { ⌜ (checkRefusal (now image) ≡ none) × (n ≡ sizesOf (now image) .nets) × (doubledSize (netsOf (now image)) ≤ 8192) ⌝ }
+    ensures { λ r. ⌜ r ≡ kindCounts (doubledNets (netsOf (now (image .entry)))) ⌝ }
+{
+    let kinds = group_kinds();
+    let lengths = group_lengths();
+    let mut counts = [0u16; 9];
+    let mut i: usize = 0;
+    while i < n {
+        let kind = kind_of(image, i) as usize;
+        let first = 8 * kind;
+        counts = count_group(counts, &kinds, first, first + lengths[kind] as usize);
+        i += 1;
+    }
+    counts
+}
