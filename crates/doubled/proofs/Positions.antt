@@ -68,7 +68,7 @@ shape-at xs i y = shape (valueNet xs i) (y .kind) (y .a) (y .b) (y .c) (valueNet
 pub group-length : (xs : List Net) (i : ℕ) (y : Net) → length (groupAt xs i y) ≡ groupLength (y .kind)
 group-length xs i y = shape-at xs i y .long
 
-groups-length : (xs : List Net) (i : ℕ) (ys : List Net) → length (groupsFrom xs i ys) ≡ doubledSize ys
+pub groups-length : (xs : List Net) (i : ℕ) (ys : List Net) → length (groupsFrom xs i ys) ≡ doubledSize ys
 unfolding groupsFrom doubledSize
 groups-length xs i [] = refl
 groups-length xs i (y ∷ ys) =
@@ -202,7 +202,7 @@ unfolding doubledNets valueNet doubledSize
 doubled-passes {xs} ps e = groups-pass ps e ps (laid xs) (omega arith)
 
 -- where a group stands
-groups-append : (xs : List Net) (i : ℕ) (ys zs : List Net) → groupsFrom xs i (ys ++ zs) ≡ groupsFrom xs i ys ++ groupsFrom xs (i + length ys) zs
+pub groups-append : (xs : List Net) (i : ℕ) (ys zs : List Net) → groupsFrom xs i (ys ++ zs) ≡ groupsFrom xs i ys ++ groupsFrom xs (i + length ys) zs
 unfolding groupsFrom
 groups-append xs i [] zs = rw add-zero
 groups-append xs i (y ∷ ys) zs =

@@ -4,6 +4,7 @@ use mathlib.Core.List.{List}
 use mathlib.Core.Option.{Option, none, some}
 use lib.Dec.{ltb}
 use lib.ListN.{replicate}
+use Rattle.image.specs.declared.image.Net.{Net}
 use Rattle.image.specs.Image.{netsOf}
 use Rattle.refusals.specs.declared.answer.Refusal.{Refusal}
 use Rattle.refusals.specs.Refusals.{refuse, _then_}
@@ -18,20 +19,23 @@ pub record Figures : Type 0 where
   pub bytes : ℕ
   pub kinds : List ℕ
 
+-- the figures of the doubled netlist of the nets xs
+abbrev pub figuresOf : List Net → Figures
+figuresOf xs =
+    record {
+      refusal = none;
+      nets = doubledSize xs;
+      bytes = 8 + 7 * doubledSize xs;
+      kinds = kindCounts (doubledNets xs);
+    }
+
+-- a refusal, and all figures 0
+abbrev pub noFigures : Refusal → Figures
+noFigures r = record { refusal = some r; nets = 0; bytes = 0; kinds = replicate 9 0 }
+
 -- 1 to 8 and 15
 unfoldable pub sizeRefusal : List ℕ → Option Refusal
 sizeRefusal s = checkRefusal s then refuse (ltb 8192 (doubledSize (netsOf s))) 15 0
 
--- the figures, all of them 0 beside a refusal
 unfoldable pub doubledSizeOf : List ℕ → Figures
-doubledSizeOf s =
-    elim (sizeRefusal s) [
-      | none ↦
-          record {
-            refusal = none;
-            nets = doubledSize (netsOf s);
-            bytes = 8 + 7 * doubledSize (netsOf s);
-            kinds = kindCounts (doubledNets (netsOf s));
-          }
-      | some r ↦ record { refusal = some r; nets = 0; bytes = 0; kinds = replicate 9 0 }
-    ]
+doubledSizeOf s = elim (sizeRefusal s) [ none ↦ figuresOf (netsOf s) | some r ↦ noFigures r ]

@@ -1,7 +1,8 @@
 -- Terms of the contracts between the functions that count. No public call's contract uses them.
-use Prim.Native.Nat.{ℕ, _-_, _≤_}
+use Prim.Native.Nat.{ℕ, _-_, _≤_, _<_}
+use mathlib.Core.Path.{_≡_}
 use mathlib.Core.List.{List, [], _∷_}
-use lib.ListN.{getD, take, drop}
+use lib.ListN.{length, getD, take, drop}
 use Rattle.checking.specs.Counts.{raised}
 
 -- the kinds of the nets of the groups of kinds 0 to 8, each group with eight places, of which those behind its last net hold 0
@@ -27,6 +28,7 @@ unfoldable pub raisedBy : (counts : List ℕ) → (ks : List ℕ) → List ℕ
 raisedBy counts [] = counts
 raisedBy counts (k ∷ ks) = raisedBy (raised counts k) ks
 
--- no count is above m
-abbrev pub NoneAbove : (m : ℕ) → (counts : List ℕ) → Type 0
-NoneAbove m counts = (k : ℕ) → getD counts k 0 ≤ m
+-- nine counts, none of them above m
+pub record NineCounts (m : ℕ) (counts : List ℕ) : Type 0 where
+  pub nine : length counts ≡ 9
+  pub most : (k : ℕ) → k < 9 → getD counts k 0 ≤ m

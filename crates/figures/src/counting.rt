@@ -8,7 +8,7 @@ ghost use Rattle.image.specs.Image.{sizesOf, netsOf};
 ghost use Rattle.checking.specs.Check.{checkRefusal};
 ghost use Rattle.checking.specs.Counts.{kindCounts, raised};
 ghost use Rattle.doubled.specs.Doubled.{doubledSize, doubledNets};
-ghost use Rattle.figures.specs.Tables.{groupKinds, places, raisedBy, NoneAbove};
+ghost use Rattle.figures.specs.Tables.{groupKinds, places, raisedBy, NineCounts};
 
 // The kinds of the nets of each group, eight places for each of kinds 0 to 8.
 const GROUP_KINDS: [u8; 72] = [
@@ -32,7 +32,7 @@ fn group_kinds() -> [u8; 72]
 
 // One more net of a kind.
 fn raise(counts: [u16; 9], kind: u8) -> [u16; 9]
-    requires { ⌜ (kind < 9) × NoneAbove 65534 counts ⌝ }
+    requires { ⌜ (kind < 9) × NineCounts 65534 counts ⌝ }
     ensures { λ r. ⌜ r ≡ raised counts kind ⌝ }
 {
     let mut more = counts;
@@ -42,13 +42,14 @@ fn raise(counts: [u16; 9], kind: u8) -> [u16; 9]
 
 // One more net of each kind that the table has at the places from j to end, without end.
 fn count_group(counts: [u16; 9], kinds: &[u8; 72], first: usize, end: usize) -> [u16; 9]
-    requires { ⌜ (now kinds ≡ groupKinds) × (first ≤ end) × (end ≤ 72) × NoneAbove 8192 counts ⌝ }
+    requires { ⌜ (now kinds ≡ groupKinds) × (first ≤ end) × (end ≤ 72) × NineCounts 8192 counts ⌝ }
     ensures { λ r. ⌜ r ≡ raisedBy counts (places groupKinds first end) ⌝ }
 {
     let mut more = counts;
     let mut j = first;
     while j < end {
-        more = raise(more, kinds[j]);
+        let next = raise(more, kinds[j]);
+        more = next;
         j += 1;
     }
     more
@@ -66,7 +67,8 @@ pub fn count_kinds(image: &[u8], n: usize) -> [u16; 9]
     while i < n {
         let kind = kind_of(image, i) as usize;
         let first = 8 * kind;
-        counts = count_group(counts, &kinds, first, first + lengths[kind] as usize);
+        let next = count_group(counts, &kinds, first, first + lengths[kind] as usize);
+        counts = next;
         i += 1;
     }
     counts

@@ -8,12 +8,11 @@ use image::sizes_of;
 use refusals::Outcome;
 use refusals::Refusal;
 ghost use mathlib.Core.Path.{_≡_};
-ghost use mathlib.Core.Option.{none, some};
-ghost use lib.ListN.{replicate};
+ghost use mathlib.Core.Option.{none};
 ghost use Rattle.image.specs.Image.{sizesOf, netsOf};
 ghost use Rattle.checking.specs.Check.{checkRefusal};
 ghost use Rattle.doubled.specs.Doubled.{doubledSize};
-ghost use Rattle.figures.specs.Figures.{doubledSizeOf};
+ghost use Rattle.figures.specs.Figures.{noFigures, doubledSizeOf};
 ghost use Rattle.figures.specs.Answers.{figures};
 
 // The nets of the doubled netlist of an accepted image: the group lengths, summed.
@@ -34,7 +33,7 @@ fn size_of(image: &[u8], n: usize) -> usize
 
 // A refusal, with all figures 0.
 fn no_size(r: Refusal) -> DoubledSize
-    ensures { λ d. ⌜ figures d ≡ record { refusal = some r; nets = 0; bytes = 0; kinds = replicate 9 0 } ⌝ }
+    ensures { λ d. ⌜ figures d ≡ noFigures r ⌝ }
 {
     DoubledSize {
         outcome: Outcome::Refused(r),
