@@ -4,12 +4,10 @@
 //! the value net v, the last the mark net t.
 
 use crate::answers::Refusal;
-use crate::check::{check, MOST_NETS};
-use crate::image::{image_length, write_image};
+use crate::check::check;
+use crate::image::write_image;
 use crate::netlist::{Net, Netlist, Pin, Policy, Start};
-
-/// Group lengths for kinds 0 to 8.
-pub const GROUP_LENGTHS: [usize; 9] = [2, 2, 2, 2, 6, 8, 2, 7, 2];
+use crate::size::{group_length, size_within_limit};
 
 /// The value net and the mark net of a group.
 #[derive(Clone, Copy)]
@@ -21,22 +19,12 @@ struct Pair {
 /// Writes the doubled netlist's image. It meets 1 to 8 and 15 to 17.
 pub fn double(image: &[u8], buffer: &mut [u8]) -> Result<(), Refusal> {
     let netlist = check(image)?;
-    let size = size_of(&netlist);
-    if size > MOST_NETS {
-        return Err(Refusal::plain(15));
-    }
-    if buffer.len() != image_length(size) {
+    let size = size_within_limit(&netlist.nets)?;
+    if buffer.len() != size.bytes {
         return Err(Refusal::plain(16));
     }
     write_image(&doubled(&netlist), buffer);
     recheck(buffer)
-}
-
-/// The number of nets of the doubled netlist, which may be above 8,192. It
-/// meets 1 to 8 alone.
-pub fn doubled_size(image: &[u8]) -> Result<usize, Refusal> {
-    let netlist = check(image)?;
-    Ok(size_of(&netlist))
 }
 
 /// Refusal 17: the finished doubled image draws one of 1 to 8. The buffer is
@@ -49,20 +37,6 @@ fn recheck(buffer: &mut [u8]) -> Result<(), Refusal> {
     Ok(())
 }
 
-/// The length of a net's group.
-fn group_length(net: Net) -> usize {
-    GROUP_LENGTHS[usize::from(net.kind().byte())]
-}
-
-/// The sum of all group lengths.
-fn size_of(netlist: &Netlist) -> usize {
-    let mut size = 0;
-    for net in &netlist.nets {
-        size += group_length(*net);
-    }
-    size
-}
-
 /// The value net and the mark net of every group, in net order. All of them are
 /// worked out before the first group is built, since a REG pin may point
 /// forward.
@@ -70,7 +44,7 @@ fn pairs(netlist: &Netlist) -> Vec<Pair> {
     let mut pairs = Vec::new();
     let mut first = 0;
     for net in &netlist.nets {
-        let length = group_length(*net);
+        let length = group_length(net.kind());
         let last = first + length - 1;
         pairs.push(Pair {
             v: Pin { net: first },

@@ -1,7 +1,8 @@
 //! A reference implementation of the gate-level trust tracker.
 //!
-//! It is written from document 01, the specification, and follows its formulas
-//! literally. Every call checks the image anew and works on a decoded netlist.
+//! It is written from document 01, the specification, and request L1 of
+//! document 02, and follows their formulas literally. Every call checks the
+//! image anew and works on a decoded netlist.
 
 #![forbid(unsafe_code)]
 
@@ -14,12 +15,14 @@ mod gates;
 mod image;
 mod listing;
 mod netlist;
+mod size;
 
 pub use answers::{FirstFlow, Refusal, Verdict};
 pub use calls::{power_up, run, step, MOST_CYCLES};
 pub use check::{check, MOST_NETS};
-pub use doubling::{double, doubled_size, GROUP_LENGTHS};
+pub use doubling::double;
 pub use gates::{and_byte, mux_byte, not_byte, or_byte, xor_byte};
 pub use image::image_length;
 pub use listing::listing;
 pub use netlist::{Kind, Net, Netlist, Pin, Policy, Start};
+pub use size::{doubled_size, DoubledSize, GROUP_LENGTHS};

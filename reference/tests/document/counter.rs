@@ -103,7 +103,8 @@ fn a_run_goes_on_from_the_state_it_is_lent() {
 // Document 01 gives 16 nets and 120 bytes.
 #[test]
 fn the_doubled_counter_has_16_nets() {
-    assert_eq!(doubled_size(&COUNTER), Ok(16));
+    let size = doubled_size(&COUNTER).unwrap();
+    assert_eq!((size.nets, size.bytes), (16, 120));
     assert_eq!(double(&COUNTER, &mut [77; 120]), Ok(()));
 }
 

@@ -116,7 +116,7 @@ const DOUBLED_NINE: [u8; 239] = [
 #[test]
 fn the_doubled_nine_kinds_byte_for_byte() {
     let mut buffer = [77; 239];
-    assert_eq!(doubled_size(&nine_kinds()), Ok(33));
+    assert_eq!(doubled_size(&nine_kinds()).unwrap().nets, 33);
     assert_eq!(double(&nine_kinds(), &mut buffer), Ok(()));
     assert_eq!(buffer, DOUBLED_NINE);
 }

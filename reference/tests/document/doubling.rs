@@ -1,4 +1,5 @@
-//! The doubled size, its limit, and the settings that doubling keeps or drops.
+//! The group lengths, the limit of doubling, and the settings that it keeps or
+//! drops.
 
 use crate::images::*;
 use crate::lent::*;
@@ -9,31 +10,13 @@ fn group_lengths_are_those_of_the_document() {
     assert_eq!(GROUP_LENGTHS, [2, 2, 2, 2, 6, 8, 2, 7, 2]);
 }
 
-// A CONST has 2 nets, so with it and one net of the kind the size is 2 more
-// than the kind's group length.
-#[test]
-fn the_size_of_each_kind() {
-    for (kind, length) in [2, 2, 2, 2, 6, 8, 2, 7, 2].into_iter().enumerate() {
-        let image = counted(&[(CONST, 0, 0, 0), (kind as u8, 0, 0, 0)]);
-        assert_eq!(doubled_size(&image), Ok(2 + length));
-    }
-}
-
-/// A CONST, 1,023 ORs and one AND: 2 + 8 * 1,023 + 6 = 8,192 doubled nets.
-fn exactly_8192() -> Vec<u8> {
-    let mut nets = const_and_ors(1023);
-    nets.push((AND, 0, 0, 0));
-    counted(&nets)
-}
-
 // 8 + 7 * 8,192 is 57,352.
 #[test]
 fn a_doubled_netlist_of_8192_nets_is_accepted() {
-    assert_eq!(doubled_size(&exactly_8192()), Ok(8192));
     let mut buffer = vec![77; 57352];
-    assert_eq!(double(&exactly_8192(), &mut buffer), Ok(()));
+    assert_eq!(double(&doubles_to_8192(), &mut buffer), Ok(()));
     assert_eq!(check(&buffer).unwrap().nets.len(), 8192);
-    double_refuses(&exactly_8192(), 57351, 16, 0);
+    double_refuses(&doubles_to_8192(), 57351, 16, 0);
 }
 
 // The AND's group is nets 8,186 to 8,191, and v, t of the CONST are 0, 1. So
@@ -43,7 +26,7 @@ fn a_doubled_netlist_of_8192_nets_is_accepted() {
 #[test]
 fn the_last_group_of_8192_nets_byte_for_byte() {
     let mut buffer = vec![77; 57352];
-    double(&exactly_8192(), &mut buffer).unwrap();
+    double(&doubles_to_8192(), &mut buffer).unwrap();
     assert_eq!(buffer[..8], [0, 32, 0, 0, 0, 0, 0, 0]);
     assert_eq!(buffer[8194..8200], [4, 4, 4, 4, 5, 5]);
     #[rustfmt::skip]
@@ -61,39 +44,22 @@ fn the_last_group_of_8192_nets_byte_for_byte() {
 // 2 + 8 * 1,024 is 8,194. 8 + 7 * 8,194 is 57,366.
 #[test]
 fn a_doubled_netlist_of_8194_nets_is_refused() {
-    let image = counted(&const_and_ors(1024));
-    assert_eq!(doubled_size(&image), Ok(8194));
-    double_refuses(&image, 57366, 15, 0);
+    double_refuses(&counted(&const_and_ors(1024)), 57366, 15, 0);
 }
 
-// A CONST, 1,022 ORs, a MUX, an AND and a NOT: 2 + 8,176 + 7 + 6 + 2 = 8,193.
+// 8 + 7 * 8,193 is 57,359.
 #[test]
 fn a_doubled_netlist_of_8193_nets_is_refused() {
-    let mut nets = const_and_ors(1022);
-    nets.extend([(MUX, 0, 0, 0), (AND, 0, 0, 0), (NOT, 0, 0, 0)]);
-    assert_eq!(doubled_size(&counted(&nets)), Ok(8193));
-    double_refuses(&counted(&nets), 57359, 15, 0);
+    double_refuses(&doubles_to_8193(), 57359, 15, 0);
 }
 
-// A CONST and 8,191 ORs: 2 + 8 * 8,191 = 65,530, the largest size of all.
+// A CONST and 8,191 ORs: 2 + 8 * 8,191 = 65,530, the largest size of all, and 8
+// + 7 * 65,530 = 458,718 bytes.
 #[test]
-fn the_size_may_exceed_the_limit() {
+fn the_largest_doubled_netlist_is_refused() {
     let image = counted(&const_and_ors(8191));
-    assert_eq!(doubled_size(&image), Ok(65530));
+    double_refuses(&image, 458718, 15, 0);
     double_refuses(&image, 0, 15, 0);
-}
-
-#[test]
-fn the_size_meets_1_to_8() {
-    assert_eq!(doubled_size(&[0; 7]), refused(1, 0));
-    assert_eq!(doubled_size(&[0; 8]), refused(2, 0));
-    assert_eq!(doubled_size(&COUNTER[..49]), refused(3, 0));
-    assert_eq!(doubled_size(&counted(&[(9, 0, 0, 0)])), refused(4, 0));
-    assert_eq!(doubled_size(&counted(&[(NOT, 0, 0, 0)])), refused(5, 0));
-    assert_eq!(doubled_size(&counted(&[(CONST, 2, 0, 0)])), refused(6, 0));
-    assert_eq!(doubled_size(&counted(&[(INPUT, 1, 0, 0)])), refused(7, 0));
-    let wrong = image(1, 0, 0, &[(CONST, 0, 0, 0)]);
-    assert_eq!(doubled_size(&wrong), refused(8, 0));
 }
 
 // The value register keeps the start 0, 1 or 2; the mark register starts at 0.
@@ -131,7 +97,7 @@ fn doubled_outs_are_free() {
 fn a_doubled_image_may_be_doubled() {
     let mut once = [77; 120];
     double(&COUNTER, &mut once).unwrap();
-    assert_eq!(doubled_size(&once), Ok(72));
+    assert_eq!(doubled_size(&once).unwrap().nets, 72);
     let mut twice = vec![77; 8 + 7 * 72];
     assert_eq!(double(&once, &mut twice), Ok(()));
     let netlist = check(&twice).unwrap();

@@ -93,6 +93,21 @@ pub fn const_and_ors(ors: usize) -> Vec<Entry> {
     nets
 }
 
+/// A CONST, 1,023 ORs and one AND: 2 + 8 * 1,023 + 6 = 8,192 doubled nets.
+pub fn doubles_to_8192() -> Vec<u8> {
+    let mut nets = const_and_ors(1023);
+    nets.push((AND, 0, 0, 0));
+    counted(&nets)
+}
+
+/// A CONST, 1,022 ORs, a MUX, an AND and a NOT: 2 + 8,176 + 7 + 6 + 2 = 8,193
+/// doubled nets.
+pub fn doubles_to_8193() -> Vec<u8> {
+    let mut nets = const_and_ors(1022);
+    nets.extend([(MUX, 0, 0, 0), (AND, 0, 0, 0), (NOT, 0, 0, 0)]);
+    counted(&nets)
+}
+
 // The builder gives the counter's bytes that were written by hand.
 #[test]
 fn the_builder_gives_the_counter() {

@@ -3,50 +3,8 @@
 //! tried on all rows of a gate and on many small netlists.
 
 use crate::images::*;
+use crate::random::{random_nets, Numbers};
 use reference::{double, doubled_size, power_up, run, step, Verdict};
-
-/// A sequence of numbers that is the same in every run of the tests.
-struct Numbers(u64);
-
-impl Numbers {
-    /// A number from 0 to `count` - 1.
-    fn below(&mut self, count: usize) -> usize {
-        self.0 = self
-            .0
-            .wrapping_mul(6364136223846793005)
-            .wrapping_add(1442695040888963407);
-        (self.0 >> 33) as usize % count
-    }
-
-    fn operand(&mut self, count: usize) -> u16 {
-        self.below(count) as u16
-    }
-
-    fn bytes(&mut self, length: usize) -> Vec<u8> {
-        (0..length).map(|_| self.below(4) as u8).collect()
-    }
-}
-
-/// A good entry for net `number` of `n` nets. Net 0 has no net below it.
-fn entry(numbers: &mut Numbers, number: usize, n: usize) -> Entry {
-    let kinds = if number == 0 { 3 } else { 9 };
-    let kind = numbers.below(kinds) as u8;
-    let below = number.max(1);
-    match kind {
-        CONST => (kind, numbers.operand(2), 0, 0),
-        INPUT => (kind, 0, 0, 0),
-        REG => (kind, numbers.operand(n), numbers.operand(3), 0),
-        NOT => (kind, numbers.operand(below), 0, 0),
-        OUT => (kind, numbers.operand(below), numbers.operand(2), 0),
-        MUX => (
-            kind,
-            numbers.operand(below),
-            numbers.operand(below),
-            numbers.operand(below),
-        ),
-        _ => (kind, numbers.operand(below), numbers.operand(below), 0),
-    }
-}
 
 /// A good netlist image with its I, R and O.
 struct Sample {
@@ -81,8 +39,7 @@ fn samples(numbers: &mut Numbers) -> Vec<Sample> {
     let mut all = Vec::new();
     for _ in 0..300 {
         let n = 1 + numbers.below(30);
-        let nets: Vec<Entry> = (0..n).map(|number| entry(numbers, number, n)).collect();
-        all.push(sample(&nets));
+        all.push(sample(&random_nets(numbers, n)));
     }
     all
 }
@@ -103,7 +60,7 @@ fn run_from_power_up(sample: &Sample, k: usize, rows: &[u8]) -> (Vec<u8>, Vec<u8
 
 /// The doubled netlist, which has two inputs, registers and outputs for one.
 fn doubled(source: &Sample) -> Sample {
-    let n = doubled_size(&source.image).unwrap();
+    let n = doubled_size(&source.image).unwrap().nets;
     let mut image = vec![77; 8 + 7 * n];
     double(&source.image, &mut image).unwrap();
     Sample {

@@ -7,7 +7,7 @@ use crate::lent::*;
 
 /// An image for each of 1 to 8 with the place of its refusal. All are changed
 /// forms of the counter, whose operands start at byte 14.
-fn bad_images() -> Vec<(Vec<u8>, u32, usize)> {
+pub fn bad_images() -> Vec<(Vec<u8>, u32, usize)> {
     let changed = |index: usize, byte: u8| {
         let mut bytes = COUNTER.to_vec();
         bytes[index] = byte;

@@ -1,9 +1,10 @@
-//! "Readings that would be wrong" in document 01, each as a test that the wrong
-//! reading fails.
+//! "Readings that would be wrong" in document 01, and wrong readings of request
+//! L1 of document 02, each as a test that the wrong reading fails.
 
 use crate::counter::{counter_run, CYCLES};
 use crate::images::*;
-use reference::{double, power_up, run, step, xor_byte, Verdict};
+use crate::lent::refused;
+use reference::{double, doubled_size, power_up, run, step, xor_byte, Verdict};
 
 // With a mark on a gate whenever a pin is marked, AND(3, 0) in cycle 2 would be
 // 2, and the register would be marked for ever. By the rule it is 0, and cycle
@@ -99,4 +100,35 @@ fn the_doubled_xor_with_itself_is_marked() {
     let mut outputs = [77; 4];
     run(&doubled, 2, &mut [], &[0, 1, 1, 1], &mut outputs).unwrap();
     assert_eq!(outputs, [0, 1, 0, 1]);
+}
+
+// The counter has the kinds INPUT, REG, NOT, NOT, AND, OUT. Counts of the source
+// would be 0, 1, 1, 2, 1, 0, 0, 0, 1, and with two for each net 0, 2, 2, 4, 2,
+// 0, 0, 0, 2. The counts are those of the doubled netlist, which has ORs.
+#[test]
+fn the_kinds_are_not_those_of_the_source() {
+    let kinds = doubled_size(&COUNTER).unwrap().kinds;
+    assert_eq!(kinds, [0, 2, 2, 2, 4, 4, 0, 0, 2]);
+}
+
+// With one count for a group, or with the whole group under the source net's
+// kind, an AND behind a CONST would give the counts 1 of each, or 2 CONSTs and 6
+// ANDs. Its group has 4 ANDs and 2 ORs.
+#[test]
+fn each_net_of_a_group_counts_for_its_own_kind() {
+    let image = counted(&[(CONST, 0, 0, 0), (AND, 0, 0, 0)]);
+    let kinds = doubled_size(&image).unwrap().kinds;
+    assert_eq!(kinds, [2, 0, 0, 0, 4, 2, 0, 0, 0]);
+}
+
+// 1,366 ANDs behind a CONST are 1,367 nets, not more than 8,192, but they
+// double to 2 + 6 * 1,366 = 8,198. The figures are not given beside 15, and one
+// AND less gives 8,192 nets.
+#[test]
+fn the_figures_turn_back_above_8192_doubled_nets() {
+    let mut nets = vec![(CONST, 0, 0, 0)];
+    nets.extend(vec![(AND, 0, 0, 0); 1365]);
+    assert_eq!(doubled_size(&counted(&nets)).unwrap().nets, 8192);
+    nets.push((AND, 0, 0, 0));
+    assert_eq!(doubled_size(&counted(&nets)), refused(15, 0));
 }

@@ -1,0 +1,66 @@
+//! Random numbers and netlists for the tests, the same in every run of them.
+
+use crate::images::*;
+
+/// A sequence of numbers that is the same in every run of the tests.
+pub struct Numbers(pub u64);
+
+impl Numbers {
+    /// A number from 0 to `count` - 1.
+    pub fn below(&mut self, count: usize) -> usize {
+        self.0 = self
+            .0
+            .wrapping_mul(6364136223846793005)
+            .wrapping_add(1442695040888963407);
+        (self.0 >> 33) as usize % count
+    }
+
+    fn operand(&mut self, count: usize) -> u16 {
+        self.below(count) as u16
+    }
+
+    /// Bytes from 0 to 3.
+    pub fn bytes(&mut self, length: usize) -> Vec<u8> {
+        (0..length).map(|_| self.below(4) as u8).collect()
+    }
+}
+
+/// A good entry of this kind for net `number` of `n` nets. Net 0 has no net
+/// below it, so its kind is CONST, INPUT or REG.
+fn entry(numbers: &mut Numbers, kind: u8, number: usize, n: usize) -> Entry {
+    let below = number.max(1);
+    match kind {
+        CONST => (kind, numbers.operand(2), 0, 0),
+        INPUT => (kind, 0, 0, 0),
+        REG => (kind, numbers.operand(n), numbers.operand(3), 0),
+        NOT => (kind, numbers.operand(below), 0, 0),
+        OUT => (kind, numbers.operand(below), numbers.operand(2), 0),
+        MUX => (
+            kind,
+            numbers.operand(below),
+            numbers.operand(below),
+            numbers.operand(below),
+        ),
+        _ => (kind, numbers.operand(below), numbers.operand(below), 0),
+    }
+}
+
+/// The nets of a good netlist of `n` nets, of all kinds alike.
+pub fn random_nets(numbers: &mut Numbers, n: usize) -> Vec<Entry> {
+    let all = [CONST, INPUT, REG, NOT, AND, OR, XOR, MUX, OUT];
+    random_nets_of(numbers, &all, n)
+}
+
+/// The nets of a good netlist of `n` nets. From net 1 on the kinds are drawn
+/// from the given ones.
+pub fn random_nets_of(numbers: &mut Numbers, kinds: &[u8], n: usize) -> Vec<Entry> {
+    let mut nets = Vec::new();
+    for number in 0..n {
+        let kind = match number {
+            0 => numbers.below(3) as u8,
+            _ => kinds[numbers.below(kinds.len())],
+        };
+        nets.push(entry(numbers, kind, number, n));
+    }
+    nets
+}
