@@ -1,10 +1,12 @@
 //! A case, executed with the calls of the reference.
 
-use super::printing::{image, lent, outcome, run_answer, step_answer, whether_changed};
-use super::reading::{Call, Case};
+use super::calls::Call;
+use super::printing::{figures, image, lent, outcome, run_answer, step_answer, whether_changed};
+use super::reading::Case;
 use crate::images::{AND, MUX, NOT, OR, OUT, XOR};
 use reference::{
-    and_byte, check, double, mux_byte, not_byte, or_byte, power_up, run, step, xor_byte,
+    and_byte, check, double, doubled_size, mux_byte, not_byte, or_byte, power_up, run, step,
+    xor_byte,
 };
 use std::fmt::Write;
 
@@ -76,5 +78,6 @@ pub fn execute(case: &Case, page: &mut String) {
             lent(page, ", outputs", &buffer);
         }
         Call::Double => execute_double(case, page),
+        Call::Figures => figures(page, doubled_size(&source(case))),
     }
 }

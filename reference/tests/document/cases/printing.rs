@@ -1,6 +1,6 @@
 //! What the program `cases` prints of an answer and of lent bytes.
 
-use reference::{FirstFlow, Refusal, Verdict};
+use reference::{DoubledSize, FirstFlow, Refusal, Verdict};
 use std::fmt::Write;
 
 fn refusal(page: &mut String, r: Refusal) {
@@ -35,6 +35,21 @@ pub fn run_answer(page: &mut String, answer: Result<FirstFlow, Refusal>) {
             write!(page, ", cycle {}", first.cycle).unwrap();
         }
         Err(r) => refusal(page, r),
+    }
+}
+
+/// The nets, the bytes and the nets of each kind of a doubled netlist. All of
+/// them are 0 where the call was refused.
+pub fn figures(page: &mut String, answer: Result<DoubledSize, Refusal>) {
+    outcome(page, answer.map(|_| ()));
+    let size = answer.unwrap_or(DoubledSize {
+        nets: 0,
+        bytes: 0,
+        kinds: [0; 9],
+    });
+    write!(page, ", nets {}, bytes {}, kinds", size.nets, size.bytes).unwrap();
+    for count in size.kinds {
+        write!(page, " {count}").unwrap();
     }
 }
 

@@ -3,17 +3,8 @@
 //! The program `cases` knows a word by its first letter. Here every word has to
 //! be written out, and anything that is not in the language stops the test.
 
+use super::calls::{read_call, Call};
 use std::collections::BTreeMap;
-
-#[derive(Clone, Copy, Debug, PartialEq)]
-pub enum Call {
-    Gate,
-    Check,
-    PowerUp,
-    Step,
-    Run,
-    Double,
-}
 
 /// A call, its number and its lists. `goes_on` says that it prints on the line
 /// of the case before it.
@@ -70,43 +61,37 @@ fn read_case(line: &str, names: &Names) -> Case {
     assert!(before.is_empty() || before == "+", "{line}");
     let mut words: Vec<&str> = behind.split_whitespace().collect();
     let call = read_call(words.remove(0));
-    let number = match words.first().and_then(|word| word.parse().ok()) {
-        Some(number) => {
-            words.remove(0);
-            number
-        }
-        None => 0,
-    };
+    let number = take_number(&mut words);
+    assert!(number.is_none() || call.takes_number(), "{line}");
     let mut lists = split_lists(&words, line);
+    for word in lists.keys() {
+        let taken = call.takes_lists().contains(word);
+        assert!(taken, "the call takes no list {word}: {line}");
+    }
     let mut bytes = |word: &str| {
         let written = lists.remove(word).unwrap_or_default();
         read_list(named(&written, names), word == "image")
     };
-    let case = Case {
+    Case {
         goes_on: before == "+",
         name: name.to_string(),
         call,
-        number,
+        number: number.unwrap_or(0),
         image: bytes("image"),
         doubled: bytes("doubled"),
         state: bytes("state"),
         rows: bytes("rows"),
         buffer: bytes("buffer"),
-    };
-    assert!(lists.is_empty(), "a list of no known word: {line}");
-    case
+    }
 }
 
-fn read_call(word: &str) -> Call {
-    match word {
-        "Gate" => Call::Gate,
-        "Check" => Call::Check,
-        "Power-up" => Call::PowerUp,
-        "Step" => Call::Step,
-        "Run" => Call::Run,
-        "Double" => Call::Double,
-        _ => panic!("no call: {word}"),
+/// Takes the number at the head of the words, where there is one.
+fn take_number(words: &mut Vec<&str>) -> Option<usize> {
+    let number = words.first().and_then(|word| word.parse().ok());
+    if number.is_some() {
+        words.remove(0);
     }
+    number
 }
 
 /// What stands behind each word that names a list.
@@ -189,4 +174,16 @@ fn a_case_with_its_number_and_lists() {
     assert_eq!((case.call, case.number), (Call::Run, 4096));
     assert_eq!((&case.rows[..], &case.state[..]), (&[1, 2][..], &[3][..]));
     assert!(case.image.is_empty() && case.buffer.is_empty());
+}
+
+#[test]
+fn the_figures_take_an_image_alone_or_a_doubled_one() {
+    let cases = read_cases("\"f\" Figures image | 7*0\n\"g\" Figures image | 3 doubled 2*9\n");
+    assert_eq!((cases[0].call, cases[0].number), (Call::Figures, 0));
+    assert_eq!(cases[0].image, [0; 7]);
+    assert!(cases[0].doubled.is_empty());
+    assert_eq!(
+        (&cases[1].image[..], &cases[1].doubled[..]),
+        (&[3][..], &[9, 9][..])
+    );
 }
