@@ -2,7 +2,7 @@
 use Prim.Native.Nat.{ℕ, suc, _≤_}
 use native.Mathlib.Omega.{arith}
 use mathlib.Core.Logic.{_↔_}
-use mathlib.Core.Path.{_≡_, refl}
+use mathlib.Core.Path.{_≡_, refl, sym, _∙_}
 use mathlib.Core.List.{List, [], _∷_, Forall₂·nil, Forall₂·cons}
 use mathlib.Core.Option.{none}
 use mathlib.Core.Bool.{Bool, true, false, _&&_, _||_, not}
@@ -17,6 +17,7 @@ use Rattle.net_checking.specs.NetCheck.{badPin, badValue, badUnlisted, netRefus
 use Rattle.checking.specs.Check.{wrongCounts, netsRefusal, checkRefusal}
 use Rattle.checking.proofs.Checked.{Checked, check-none}
 use Rattle.cycle.proofs.Calls.{IsState, Ready, power-up-none, step-none, run-none}
+use Rattle.figures.proofs.Refusing.{size-none, size-given}
 use Rattle.doubling.proofs.Checks.{double-none}
 use Rattle.claims.specs.Accepted as claim
 use Rattle.claims.proofs.InTurn.{InTurn, none-drawn, none-given}
@@ -156,6 +157,10 @@ when-accepted =
       run = λ s st k rows outputs. (
         λ h. let t = run-none s st k rows outputs .0 h in (image (t .0), t .1, state (t .0 .state), rows-of (t .0), t .2),
         λ t. run-none s st k rows outputs .1 (ready (t .0) (t .2) (t .3), t .1, t .4),
+      );
+      doubled-size = λ s. (
+        λ h. let t = size-none s .0 (sym (size-given s) ∙ h) in (checked s .0 (t .0), t .1),
+        λ t. size-given s ∙ size-none s .1 (checked s .1 (t .0), t .1),
       );
       double = λ s buf. (
         λ h. let t = double-none s buf .0 h in (checked s .0 (t .0), t .1, t .2),

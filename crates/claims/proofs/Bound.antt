@@ -8,9 +8,11 @@ use lib.ListN.{length, replicate, length-replicate}
 use Rattle.gates.specs.Kinds.{CONST, INPUT, REG, OR, OUT}
 use Rattle.image.specs.Image.{sizesOf, net, netsOf, count}
 use Rattle.image.proofs.Nets.{length-nets}
-use Rattle.image.proofs.Encoding.{encode-length, sizes-back, nets-back}
+use Rattle.image.proofs.Pairs.{pairs-getD}
+use Rattle.image.proofs.Encoding.{encode-length, sizes-back, nets-back, Bytes}
 use Rattle.net_checking.proofs.Passes.{is-const, is-or}
 use Rattle.checking.proofs.Checked.{AllPass, nil, cons, Checked, check-none}
+use Rattle.checking.proofs.Encoded.{encode-bytes}
 use Rattle.groups.specs.Groups.{groupLengths, groupLength}
 use Rattle.doubled.specs.Doubled.{doubledSize}
 use Rattle.doubled.proofs.Positions.{doubled-length}
@@ -83,10 +85,15 @@ module _ (n : ℕ) (some : 1 ≤ n) where
         outputs = rw (sizes, nets) (sym (all-count OUT refl refl));
       }
 
+  image-bytes : n ≤ 8192 → Bytes (orsImage n)
+  unfolding orsImage
+  image-bytes few = encode-bytes few (rw all-length few) all-pass (omega arith) (lit< tt) (lit< tt) (lit< tt)
+
 pub bound-reached : BoundReached
 bound-reached n some few =
     record {
       accepted = check-none (orsImage n) .1 (image-checked n some few);
       nets = rw (image-sizes n some);
+      bytes = λ p. pairs-getD p 0 (lit< tt) (image-bytes n some few);
       size = rw (image-nets n some, doubled-length) (all-size n some);
     }

@@ -12,6 +12,7 @@ pub mod Verdicts
 pub mod Steps
 pub mod History
 pub mod DoubledImage
+pub mod Figures
 pub mod Bound
 pub mod Groups
 pub mod Splitting

@@ -15,6 +15,8 @@ use Rattle.claims.proofs.Verdicts
 use Rattle.claims.proofs.Steps
 use Rattle.claims.proofs.History
 use Rattle.claims.proofs.DoubledImage
+use Rattle.claims.proofs.Figures
+use Rattle.claims.proofs.Bound
 use Rattle.claims.proofs.Groups
 use Rattle.claims.proofs.Pairing
 use Rattle.claims.proofs.TwoRun
@@ -53,6 +55,11 @@ promised =
       doubled-placed = DoubledImage.doubled-placed;
       doubled-unseen = DoubledImage.doubled-unseen;
       groups = Groups.groups;
+      figures-written = Figures.figures-written;
+      turns-back-alike = Figures.turns-back-alike;
+      no-figures = Figures.no-figures;
+      size-bound = Bound.size-bound;
+      bound-reached = Bound.bound-reached;
       demand3 = TwoRun.demand3;
       relations-mean = Meaning.relations-mean;
     }

@@ -20,10 +20,12 @@ use Rattle.checking.specs.Check.{wrongCounts, netsRefusal, checkRefusal}
 use Rattle.cycle.specs.Calls.{stateLength, refused, lentRefusal, powerUpRefusal, powerUpOf, stepRefusal, stepOf, asStep, runRefusal, runOf, asRun}
 use Rattle.cycle.proofs.Calls.{power-up-accepted, power-up-refused, step-accepted, step-refused, run-accepted, run-refused}
 use Rattle.doubled.specs.Doubled.{doubledSize}
+use Rattle.figures.specs.Figures.{sizeRefusal, doubledSizeOf}
+use Rattle.figures.proofs.Refusing.{size-accepted, size-refused}
 use Rattle.doubling.specs.Doubling.{doubleRefusal, doubleOf}
 use Rattle.doubling.proofs.Checks.{double-accepted, double-refused}
 use Rattle.claims.specs.Accepted.{Sized, NoneAbove3, AcceptedImage, AcceptedState}
-use Rattle.claims.specs.Refused.{AnyCall, check, power-up, step, run, double, Gives, BadNet, kind, pin, value, unlisted, BadImage, short, no-nets, many-nets, inexact, bad-net, miscounted, FirstAbove3, BadLent, state-size, state-byte, row-size, row-byte, buffer-size, Refused, bad-image, bad-state, bad-step, many-cycles, bad-run, doubled-large, doubled-size, Refusals}
+use Rattle.claims.specs.Refused.{AnyCall, check, power-up, step, run, doubled-size, double, Gives, BadNet, kind, pin, value, unlisted, BadImage, short, no-nets, many-nets, inexact, bad-net, miscounted, FirstAbove3, BadLent, state-size, state-byte, row-size, row-byte, buffer-size, Refused, bad-image, bad-state, bad-step, many-cycles, bad-run, size-large, doubled-large, doubled-length, Refusals}
 use Rattle.claims.proofs.InTurn.{InTurn, given-first, first-given}
 use Rattle.claims.proofs.Accepted as accept
 use Rattle.claims.proofs.Unchanged.{not-refused, not-some}
@@ -187,6 +189,7 @@ behind s (power-up st) = badLength 10 (stateLength (sizesOf s)) st
 behind s (step st row nets) = lentRefusal plainBytes (stateLength (sizesOf s)) (sizesOf s .inputs) (sizesOf s .nets) st row nets
 behind s (run st k rows outputs) =
     refuse (ltb 4096 k) 9 0 then lentRefusal plainBytes (stateLength (sizesOf s)) (k * sizesOf s .inputs) (k * sizesOf s .outputs) st rows outputs
+behind s doubled-size = refuse (ltb 8192 (doubledSize (netsOf s))) 15 0
 behind s (double buf) = refuse (ltb 8192 (doubledSize (netsOf s))) 15 0 then badLength 16 (8 + 7 * doubledSize (netsOf s)) buf
 
 behind-tells : (s : List ℕ) (c : AnyCall) → AcceptedImage s → Tells (behind s c) (Refused s c)
@@ -196,9 +199,10 @@ behind-tells s (step st row nets) a = record { given = λ e. bad-step a (lent-te
 behind-tells s (run st k rows outputs) a =
     one-then (line (ltb 4096 k) 9 0 (λ e. many-cycles a (ltb-true _ _ e)))
     (λ b. record { given = λ e. bad-run a (simp accepted at b) (lent-tells st rows outputs .given e) })
+behind-tells s doubled-size a = line (ltb 8192 (doubledSize (netsOf s))) 15 0 (λ e. size-large a (ltb-true _ _ e))
 behind-tells s (double buf) a =
     one-then (line (ltb 8192 (doubledSize (netsOf s))) 15 0 (λ e. doubled-large a (ltb-true _ _ e)))
-    (λ b. length-tells 16 (8 + 7 * doubledSize (netsOf s)) buf (doubled-size a (simp accepted at b)))
+    (λ b. length-tells 16 (8 + 7 * doubledSize (netsOf s)) buf (doubled-length a (simp accepted at b)))
 
 call-tells : (s : List ℕ) (c : AnyCall) → Tells (checkRefusal s then behind s c) (Refused s c)
 call-tells s c = one-then (record { given = λ e. bad-image (image-tells s .given e) }) (λ e. behind-tells s c (accept.check s .0 e))
@@ -209,8 +213,9 @@ drawn {s} (bad-state {st} a h) = rw (accept.check s .1 a, length-drawn 10 _ st h
 drawn {s} (bad-step a b) = rw (accept.check s .1 a) (lent-drawn b)
 drawn {s} (many-cycles {k = k} a l) = rw (accept.check s .1 a, lt-ltb 4096 k l)
 drawn {s} (bad-run {k = k} a l b) = rw (accept.check s .1 a, le-ltb 4096 k l) (lent-drawn b)
+drawn {s} (size-large a l) = rw (accept.check s .1 a, lt-ltb 8192 (doubledSize (netsOf s)) l)
 drawn {s} (doubled-large a l) = rw (accept.check s .1 a, lt-ltb 8192 (doubledSize (netsOf s)) l)
-drawn {s} (doubled-size {buf} a l h) = rw (accept.check s .1 a, le-ltb 8192 (doubledSize (netsOf s)) l, length-drawn 16 _ buf h)
+drawn {s} (doubled-length {buf} a l h) = rw (accept.check s .1 a, le-ltb 8192 (doubledSize (netsOf s)) l, length-drawn 16 _ buf h)
 
 -- an answer a, which give makes of a refusal, where the chain o decides
 by-chain : {A : Type 0} {r : Refusal} (o : Option Refusal) (a : A) (give : Refusal → A)
@@ -220,7 +225,7 @@ by-chain none a give n s i = (λ e. absurd (n refl e), λ h. absurd (not-some h)
 by-chain (some q) a give n s i = (λ e. ap some (i q (sym (s q refl) ∙ e)), λ h. s q refl ∙ ap give (same h))
 
 gives : (s : List ℕ) (c : AnyCall) (r : Refusal) → Gives s c r ↔ (checkRefusal s then behind s c ≡ some r)
-unfolding powerUpRefusal stepRefusal asStep runRefusal asRun doubleRefusal
+unfolding powerUpRefusal stepRefusal asStep runRefusal asRun sizeRefusal doubleRefusal
 gives s check r = one (checkRefusal s)
   where
     one : (o : Option Refusal) → (o ≡ some r) ↔ (o then none ≡ some r)
@@ -235,6 +240,9 @@ gives s (step st row nets) r =
 gives s (run st k rows outputs) r =
     by-chain (runRefusal s st k rows outputs) (runOf s st k rows outputs .answer) refused
     (λ e h. not-refused (rw (run-accepted s st k rows outputs e) at h)) (λ q e. rw (run-refused s st k rows outputs q e)) (λ q h. cc)
+gives s doubled-size r =
+    by-chain (sizeRefusal s) (doubledSizeOf s .refusal) some
+    (λ e h. not-some (rw (size-accepted s e) at h)) (λ q e. rw (size-refused s q e)) (λ q. same)
 gives s (double buf) r =
     by-chain (doubleRefusal s buf) (doubleOf s buf .refusal) some
     (λ e h. not-some (rw (double-accepted s buf e) at h)) (λ q e. rw (double-refused s buf q e)) (λ q. same)

@@ -11,6 +11,7 @@ use Rattle.image.specs.Image.{sizesOf, netsOf, count}
 use Rattle.checking.specs.Check.{checkRefusal}
 use Rattle.cycle.specs.Calls.{stateLength, powerUpRefusal, stepRefusal, runRefusal}
 use Rattle.doubled.specs.Doubled.{doubledSize}
+use Rattle.figures.specs.Figures.{doubledSizeOf}
 use Rattle.doubling.specs.Doubling.{doubleRefusal}
 use Rattle.claims.specs.Reading.{netOf}
 
@@ -87,5 +88,6 @@ pub record Accepted : Type 0 where
   pub run : (s st : List ℕ) (k : ℕ) (rows outputs : List ℕ)
       → (runRefusal s st k rows outputs ≡ none)
       ↔ (AcceptedImage s × (k ≤ 4096) × AcceptedState s st × AcceptedRows (k * sizesOf s .inputs) rows × (length outputs ≡ k * sizesOf s .outputs))
+  pub doubled-size : (s : List ℕ) → (doubledSizeOf s .refusal ≡ none) ↔ (AcceptedImage s × (doubledSize (netsOf s) ≤ 8192))
   pub double : (s buf : List ℕ)
       → (doubleRefusal s buf ≡ none) ↔ (AcceptedImage s × (doubledSize (netsOf s) ≤ 8192) × (length buf ≡ 8 + 7 * doubledSize (netsOf s)))

@@ -1,5 +1,5 @@
 -- All that is promised of the calls, as one record: read this first. Above each field stands what it means for a user; the statement itself is in the file that its
--- `use` line names. That the code does what these statements speak of (`checkRefusal`, `powerUpOf`, `stepOf`, `runOf`, `doubleOf`) is the contract of each call, in
+-- `use` line names. That the code does what these statements speak of (`checkRefusal`, `powerUpOf`, `stepOf`, `runOf`, `doubledSizeOf`, `doubleOf`) is the contract of each call, in
 -- src/ of its crate. The record is proved as `promised`, and used by the crate `exports`, field by field.
 use Rattle.gates.specs.Meaning.{GateValues, MarksExact, MuxComposed, GatesMonotone, RelationsMean}
 use Rattle.claims.specs.Terms.{Terms}
@@ -14,6 +14,8 @@ use Rattle.claims.specs.Verdicts.{Verdicts, FirstFlows}
 use Rattle.claims.specs.Steps.{StepIsCycle, RunIsSteps}
 use Rattle.claims.specs.History.{Histories}
 use Rattle.claims.specs.DoubledImage.{DoubledChecks, DoublingWrites, DoubledReadsAll, DoubledPlaced, DoubledUnseen}
+use Rattle.claims.specs.Figures.{FiguresWritten, TurnsBackAlike, NoFigures}
+use Rattle.claims.specs.Bound.{SizeBound, BoundReached}
 use Rattle.claims.specs.Groups.{Groups}
 use Rattle.claims.specs.Pairing.{Demand2}
 use Rattle.claims.specs.TwoRun.{Demand3}
@@ -76,6 +78,16 @@ pub record Promised : Type 0 where
   pub doubled-unseen : DoubledUnseen
   -- The group of each kind has the nets that document 01 gives it, in that order.
   pub groups : Groups
+  -- HOW BIG IT GETS (document 02, L1). Where doubling is accepted, the figures that are given without writing are those of the image that it writes.
+  pub figures-written : FiguresWritten
+  -- They are refused as doubling is, and a buffer of as many bytes as they say is what doubling asks for.
+  pub turns-back-alike : TurnsBackAlike
+  -- Beside a refusal all figures are 0.
+  pub no-figures : NoFigures
+  -- No netlist of N nets doubles to more than 8 × N − 6 nets.
+  pub size-bound : SizeBound
+  -- For every N from 1 to 8,192 a netlist that passes checking doubles to that many, or would if 15 did not stop it.
+  pub bound-reached : BoundReached
   -- DEMAND 3, two runs. Two lists of calls that differ in the values of marked pins alone give the same refusals, verdicts, marks and unmarked values.
   pub demand3 : Demand3
   -- "Agree", by which that is said, means of bytes 0 to 3 equal marks, and equal values where the mark is 0.

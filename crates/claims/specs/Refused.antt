@@ -12,6 +12,7 @@ use Rattle.refusals.specs.declared.answer.Refusal.{Refusal}
 use Rattle.checking.specs.Check.{checkRefusal}
 use Rattle.cycle.specs.Calls.{stateLength, refused, powerUpOf, stepOf, runOf}
 use Rattle.doubled.specs.Doubled.{doubledSize}
+use Rattle.figures.specs.Figures.{doubledSizeOf}
 use Rattle.doubling.specs.Doubling.{doubleOf}
 use Rattle.claims.specs.Reading.{netOf}
 use Rattle.claims.specs.Accepted.{Sized, PinsBelow, ValuesListed, UnlistedZero, NetsAccepted, RightCounts, AcceptedImage, AcceptedState, AcceptedRows}
@@ -22,6 +23,7 @@ pub data AnyCall : Type 0 where
   power-up : (st : List ℕ) → AnyCall
   step : (st row nets : List ℕ) → AnyCall
   run : (st : List ℕ) (k : ℕ) (rows outputs : List ℕ) → AnyCall
+  doubled-size : AnyCall
   double : (buf : List ℕ) → AnyCall
 
 -- the call on the image s gives the refusal r
@@ -30,6 +32,7 @@ Gives s check r = checkRefusal s ≡ some r
 Gives s (power-up st) r = powerUpOf s st .refusal ≡ some r
 Gives s (step st row nets) r = stepOf s st row nets .answer ≡ refused r
 Gives s (run st k rows outputs) r = runOf s st k rows outputs .answer ≡ refused r
+Gives s doubled-size r = doubledSizeOf s .refusal ≡ some r
 Gives s (double buf) r = doubleOf s buf .refusal ≡ some r
 
 -- byte i of xs is the first above 3
@@ -83,9 +86,11 @@ module _ (s : List ℕ) where
         {st : List ℕ} {k : ℕ} {rows outputs : List ℕ} {number place : ℕ} → AcceptedImage s → k ≤ 4096
         → BadLent (k * sizesOf s .inputs) (k * sizesOf s .outputs) st rows outputs number place
         → Refused (run st k rows outputs) number place
+    -- 15: the doubled size
+    size-large : AcceptedImage s → 8192 < doubledSize (netsOf s) → Refused doubled-size 15 0
     -- 15 and 16: doubling
     doubled-large : {buf : List ℕ} → AcceptedImage s → 8192 < doubledSize (netsOf s) → Refused (double buf) 15 0
-    doubled-size :
+    doubled-length :
         {buf : List ℕ} → AcceptedImage s → doubledSize (netsOf s) ≤ 8192 → (length buf ≡ 8 + 7 * doubledSize (netsOf s) → ⊥)
         → Refused (double buf) 16 0
 

@@ -1,4 +1,4 @@
--- A call that turns back changes no lent byte. This holds of doubling too, since 17, which would set its buffer to 0, is never given.
+-- A call that turns back changes no lent byte. Checking and the doubled size are lent none. This holds of doubling too, since 17, which would set its buffer to 0, is never given.
 use Prim.Native.Nat.{ℕ}
 use mathlib.Core.Path.{_≡_}
 use mathlib.Core.List.{List}

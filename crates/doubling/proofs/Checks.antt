@@ -72,7 +72,7 @@ pub doubled-nets : (s : List ℕ) → netsOf (doubledImage s) ≡ doubledNets (n
 unfolding doubledImage
 doubled-nets s = nets-back _ _ (sym (doubled-length (netsOf s)))
 
-doubled-image-length : (s : List ℕ) → length (doubledImage s) ≡ 8 + 7 * doubledSize (netsOf s)
+pub doubled-image-length : (s : List ℕ) → length (doubledImage s) ≡ 8 + 7 * doubledSize (netsOf s)
 unfolding doubledImage
 doubled-image-length s = encode-length _ (doubledNets (netsOf s)) ∙ ap (λ n. 8 + 7 * n) (doubled-length (netsOf s))
 
