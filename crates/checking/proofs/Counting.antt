@@ -1,15 +1,17 @@
 -- The nets of each kind, counted: one more net raises one of the nine counts.
-use Prim.Native.Nat.{ℕ, zero, suc, _+_, _<_}
+use Prim.Native.Nat.{ℕ, zero, suc, _+_, _≤_, _<_}
 use mathlib.Core.Path.{_≡_, refl, sym, ap, _∙_}
 use mathlib.Core.List.{List, [], _∷_, _++_}
 use mathlib.Core.Bool.{Bool, true, false, cond}
+use native.Mathlib.Decide.{decLt}
 use native.Mathlib.Omega.{arith}
 use lib.Dec.{eqb}
-use lib.ListN.{length, getD, set, length-set}
+use lib.ListN.{length, getD, set, length-set, List·getD-eq-default}
 use lib.Seq.{ext-getD, getD-set-same, getD-set-other}
 use borrow.Author.Tests.{eqb-true, eqb-false}
 use Rattle.image.specs.declared.image.Net.{Net}
 use Rattle.image.specs.Image.{count}
+use Rattle.image.proofs.Nets.{count-most}
 use Rattle.checking.specs.Counts.{kindCounts, raised}
 
 -- there are nine counts, and at place k stands the number of nets of kind k
@@ -29,6 +31,14 @@ count-at (suc (suc (suc (suc (suc (suc zero)))))) xs h = refl
 count-at (suc (suc (suc (suc (suc (suc (suc zero))))))) xs h = refl
 count-at (suc (suc (suc (suc (suc (suc (suc (suc zero)))))))) xs h = refl
 count-at (suc (suc (suc (suc (suc (suc (suc (suc (suc k))))))))) xs h = absurd (omega arith)
+
+-- at no place stands more than the number of nets
+pub count-few : (k : ℕ) (xs : List Net) → getD (kindCounts xs) k 0 ≤ length xs
+count-few k xs =
+    elim (decLt k 9) [
+      | yes h ↦ rw (count-at k xs h) (count-most k xs)
+      | no h ↦ rw (List·getD-eq-default (kindCounts xs) 0 {n = k} (rw (counts-length xs) (omega arith))) (omega arith)
+    ]
 
 -- the nets of one kind, with one more net
 count-more : (k : ℕ) (xs : List Net) (x : Net) → count k (xs ++ (x ∷ [])) ≡ count k xs + cond (eqb (x .kind) k) 1 0

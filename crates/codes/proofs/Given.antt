@@ -69,7 +69,8 @@ refused-tabled s (table.bad-step a h) = let f = few s a in bad-lent f (omega (ar
 refused-tabled s (table.many-cycles h k) = plain (omega arith) (omega arith)
 refused-tabled s (table.bad-run a h k) = let f = few s a in bad-lent f (omega (arith, mul-le-mul h (f .inputs))) k
 refused-tabled s (table.doubled-large h k) = plain (omega arith) (omega arith)
-refused-tabled s (table.doubled-size h k m) = plain (omega arith) (omega arith)
+refused-tabled s (table.size-large h k) = plain (omega arith) (omega arith)
+refused-tabled s (table.doubled-length h k m) = plain (omega arith) (omega arith)
 
 pub tabled : (s : List ℕ) (c : AnyCall) (r : Refusal) → Gives s c r → Tabled (r .number) (r .place)
 tabled s c r h = refused-tabled s (promised .refusals s c r .0 h)

@@ -9,9 +9,9 @@ use Rattle.refusals.specs.declared.answer.Refusal.{Refusal}
 use Rattle.cycle.specs.Cycle.{Verdict, clear, flow, FirstFlow}
 use Rattle.cycle.specs.Calls.{Answer, done}
 use Rattle.codes.specs.Codes.{refusalCode, outcomeCode, verdictCode, firstFlowCode, answerCode}
-use Rattle.codes.specs.Readings.{refusalRead, outcomeRead, verdictRead, stepRead, firstFlowRead, runRead, CodesRead}
+use Rattle.codes.specs.Readings.{refusalRead, outcomeRead, verdictRead, stepRead, firstFlowRead, runRead, figureRead, CodesRead}
 use Rattle.codes.proofs.Given.{Tabled, Given, no, one, check-given, powered-up-given, doubled-given}
-use Rattle.codes.proofs.Small.{Naming, no-net, names, Among, Answered, gave, turned-back, step-answered, run-answered, naming-small, among-small}
+use Rattle.codes.proofs.Small.{Naming, no-net, names, Among, Answered, gave, turned-back, step-answered, run-answered, size-answered, kind-answered, naming-small, among-small}
 
 -- a refusal: its number is not below 2^32, and is taken apart
 large : {r : Refusal} → Tabled (r .number) (r .place) → 2 ^ 32 ≤ refusalCode r
@@ -68,6 +68,11 @@ run-some : {a : Answer FirstFlow} → Answered (Among 4096 8192) a → {f : Firs
 run-some (gave g a) {f} e = let same : g ≡ f = cc in rw (← same, rest g a) (verdict-not-0 (a .verdict))
 run-some (turned-back t) {f} e = let z : _≡_ {A = ℕ} 0 1 = cc in absurd (omega arith)
 
+-- a figure of the doubled netlist
+figure-read : {a : Answer ℕ} → Answered (λ n. n ≤ 8192) a → figureRead (answerCode (λ n. n) a) ≡ a
+figure-read (gave n h) = rw (lt-ltb n (2 ^ 32) (omega arith))
+figure-read (turned-back {r} t) = rw (le-ltb (refusalCode r) (2 ^ 32) (large t), refusal-read t)
+
 pub reads : CodesRead
 reads =
     record {
@@ -75,6 +80,8 @@ reads =
       power-up = λ s st. outcome-read (powered-up-given s st);
       step = λ s st row nets. step-read (step-answered s st row nets);
       run = λ s st k rows outputs. run-read (run-answered s st k rows outputs);
+      doubled-size = λ s. figure-read (size-answered s);
+      doubled-kind = λ s k. figure-read (kind-answered s k);
       double = λ s buffer. outcome-read (doubled-given s buffer);
       refusal-is = λ r. refl;
       clear-is = refl;

@@ -5,13 +5,18 @@ use mathlib.Core.Path.{_≡_, refl, sym, ap, _∙_}
 use mathlib.Core.List.{List}
 use mathlib.Core.Option.{Option, none, some}
 use borrow.Author.Tests.{lt-ltb, le-ltb, ne-eqb}
-use lib.ListN.{length}
+use lib.ListN.{length, List·getD-eq-default}
 use Rattle.image.specs.declared.image.Net.{Net}
-use Rattle.image.specs.Image.{sizesOf, netsOf}
+use Rattle.image.specs.Image.{sizesOf, netsOf, count}
 use Rattle.refusals.specs.declared.answer.Refusal.{Refusal}
+use Rattle.refusals.proofs.Refusals.{length-none}
 use Rattle.cycle.specs.Cycle.{Verdict, clear, flow, cyclesOf, FirstFlow, firstFlow}
 use Rattle.cycle.specs.Calls.{Answer, done, refused, asStep, asRun, stepRefusal, stepOf, runOf}
 use Rattle.cycle.proofs.Calls.{either-way, step-accepted, step-refused, run-accepted}
+use Rattle.figures.specs.Figures.{doubledSizeOf}
+use Rattle.figures.proofs.Refusing.{size-accepted, size-given}
+use Rattle.doubling.specs.Doubling.{doubleOf}
+use Rattle.claims.specs.Refused as table
 use Rattle.claims.specs.Refused.{check}
 use Rattle.claims.specs.Verdicts as judged
 use Rattle.claims.specs.Verdicts.{MarkedOutput, Judged, First}
@@ -20,9 +25,10 @@ use Rattle.claims.proofs.Unchanged.{not-refused}
 use Rattle.claims.proofs.OneRun.{run-taken}
 use Rattle.claims.proofs.ClearRun.{cycles-length}
 use Rattle.claims.proofs.Promised.{promised}
-use Rattle.codes.specs.Codes.{outcomeCode, verdictCode, firstFlowCode, answerCode}
+use Rattle.codes.specs.Codes.{outcomeCode, verdictCode, firstFlowCode, figureIn, answerCode, sizeCode, kindCode}
 use Rattle.codes.specs.Readings.{outcomeRead, stepRead, runRead}
 use Rattle.codes.specs.Says.{NumbersSay}
+use Rattle.codes.proofs.Given.{tabled}
 use Rattle.codes.proofs.Small.{Answered, gave, turned-back, step-answered, run-answered, naming-small, among-small}
 use Rattle.codes.proofs.Readings.{reads}
 
@@ -104,6 +110,27 @@ run-is-clear s st k rows outputs l m =
     let read : runRead n ≡ done (record { cycle = n / 65536; verdict = clear }) = rw (lt-ltb n (2 ^ 32) l, m) in
     clear-answer s st k rows outputs (record { cycle = n / 65536; verdict = clear }) (sym (reads .run s st k rows outputs) ∙ read) refl
 
+-- THE FIGURES, where they are not refused
+module _ (s buf : List ℕ) where
+  size-is : (o : Option Refusal) → doubledSizeOf s .refusal ≡ o → sizeCode (doubledSizeOf s) < 2 ^ 32 → length buf ≡ 8 + 7 * sizeCode (doubledSizeOf s)
+      → (doubleOf s buf .refusal ≡ none) × (sizesOf (doubleOf s buf .buffer) .nets ≡ sizeCode (doubledSizeOf s))
+  size-is none e h l =
+      let a = size-accepted s (sym (size-given s) ∙ e) in
+      let fits : length buf ≡ doubledSizeOf s .bytes = rw e at l ∙ rw a in
+      let w : doubleOf s buf .refusal ≡ none = promised .turns-back-alike s buf ∙ rw e (length-none 16 _ buf .1 fits) in
+      (w, rw e (sym (promised .figures-written s buf w .nets)))
+  size-is (some r) e h l =
+      let t = tabled s table.doubled-size r e in
+      absurd (let below = rw e at h in omega (arith, t .some-number))
+
+  kind-is : (k : ℕ) → k ≤ 8 → doubleOf s buf .refusal ≡ none → kindCode (doubledSizeOf s) k ≡ count k (netsOf (doubleOf s buf .buffer))
+  kind-is k l w = let f = promised .figures-written s buf w in rw (f .accepted) (f .kinds k l)
+
+  no-kind : (k : ℕ) → 8 < k → doubleOf s buf .refusal ≡ none → kindCode (doubledSizeOf s) k ≡ 0
+  no-kind k l w =
+      let f = promised .figures-written s buf w in
+      rw (f .accepted) (List·getD-eq-default (doubledSizeOf s .kinds) 0 {n = k} (omega (arith, f .nine)))
+
 pub says : NumbersSay
 says =
     record {
@@ -119,6 +146,9 @@ says =
           let t = turned-answer firstFlowCode among-small (run-answered s st k rows outputs) h in
           promised .unchanged .run s st k rows outputs (t .refusal) (t .is);
       double-kept = λ s buf h. let t = turned-outcome _ h in promised .unchanged .double s buf (t .refusal) (t .is);
+      doubled-size = λ s buf h l. size-is s buf _ refl h l;
+      doubled-kind = λ s buf. kind-is s buf;
+      doubled-no-kind = λ s buf. no-kind s buf;
       step-clear = λ s st row nets h. step-unmarked s st row nets (sym (reads .step s st row nets) ∙ ap stepRead h);
       step-flow = λ s st row nets h. step-marked s st row nets _ (sym (reads .step s st row nets) ∙ flow-read _ h);
       check-refused = λ s n p h k e. promised .refusals s check (record { number = n; place = p }) .0 (sym (reads .check s) ∙ ap outcomeRead e ∙ refusal-read n p h k);

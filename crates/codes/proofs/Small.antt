@@ -1,20 +1,26 @@
 -- How large the number of an answer is: below 2^32 without a refusal, and below 2^64 with one.
 use Prim.Native.Nat.{ℕ, zero, suc, _+_, _^_, _≤_, _<_}
 use native.Mathlib.Omega.{arith}
-use mathlib.Core.Path.{_≡_}
+use mathlib.Core.Path.{_≡_, _∙_}
 use mathlib.Core.List.{List}
-use mathlib.Core.Option.{Option}
-use lib.ListN.{take, drop}
+use mathlib.Core.Option.{Option, none}
+use lib.ListN.{getD, take, drop}
 use Rattle.image.specs.Image.{sizesOf, netsOf}
 use Rattle.refusals.specs.declared.answer.Refusal.{Refusal}
 use Rattle.cycle.specs.Cycle.{Verdict, clear, flow, cycleOf, cyclesOf, FirstFlow, firstOf, firstFlow}
 use Rattle.cycle.specs.Calls.{Answer, done, refused, asStep, asRun, stepRefusal, stepOf, runRefusal, runOf}
+use Rattle.checking.proofs.Counting.{count-few}
 use Rattle.cycle.proofs.Calls.{either-way, step-accepted, step-refused, run-accepted, run-refused}
+use Rattle.doubled.specs.Doubled.{doubledNets}
+use Rattle.doubled.proofs.Positions.{doubled-length}
+use Rattle.figures.specs.Figures.{sizeRefusal, doubledSizeOf}
+use Rattle.figures.proofs.Refusing.{size-none, size-accepted, size-given}
 use Rattle.claims.specs.Accepted.{AcceptedImage}
 use Rattle.claims.specs.Refused as table
-use Rattle.claims.specs.Verdicts.{Judged, none, lowest}
+use Rattle.claims.specs.Verdicts as judged
+use Rattle.claims.specs.Verdicts.{Judged, lowest}
 use Rattle.claims.proofs.Promised.{promised}
-use Rattle.codes.specs.Codes.{refusalCode, outcomeCode, verdictCode, firstFlowCode, answerCode}
+use Rattle.codes.specs.Codes.{refusalCode, outcomeCode, verdictCode, firstFlowCode, figureIn, answerCode}
 use Rattle.codes.proofs.Given.{Tabled, tabled, Given, no, one}
 
 -- a verdict on n nets is clear, or names one of them, behind net 0
@@ -24,7 +30,7 @@ pub data Naming (n : ℕ) : Verdict → Type 0 where
 
 -- an OUT stands behind its pin, so it is not net 0
 judged-names : (s : List ℕ) {bs : List ℕ} {v : Verdict} → AcceptedImage s → Judged (netsOf s) bs v → Naming 8192 v
-judged-names s a (Judged.none h) = no-net
+judged-names s a (judged.none h) = no-net
 judged-names s a (lowest {i} m h) =
     let l : i < sizesOf s .nets = omega (arith, m .below, promised .image-read s .all) in
     let pin = a .nets i l .pins .a (omega (arith, m .out)) (omega (arith, m .out)) in
@@ -77,6 +83,25 @@ run-answered s st k rows outputs =
     rw (run-accepted s st k rows outputs h)
     (gave (firstFlow 0 (cyclesOf (netsOf s) (sizesOf s .inputs) k rows st)) (record { cycle = omega (arith, a .cycle, n .1); verdict = a .verdict })))
     (λ r h. let e = run-refused s st k rows outputs r h in rw e (turned-back (tabled s (table.run st k rows outputs) r (rw e))))
+
+-- THE FIGURES of the doubled netlist
+figure-answered : (s : List ℕ) (figure : ℕ) → (sizeRefusal s ≡ none → figure ≤ 8192) → Answered (λ n. n ≤ 8192) (figureIn (doubledSizeOf s .refusal) figure)
+figure-answered s figure few =
+    rw (size-given s)
+    (either-way (sizeRefusal s)
+    (λ e. rw e (gave figure (few e)))
+    (λ r e. rw e (turned-back (tabled s table.doubled-size r (size-given s ∙ e)))))
+
+few-nets : (s : List ℕ) → sizeRefusal s ≡ none → doubledSizeOf s .nets ≤ 8192
+few-nets s e = rw (size-accepted s e) (size-none s .0 e .1)
+
+pub size-answered : (s : List ℕ) → Answered (λ n. n ≤ 8192) (figureIn (doubledSizeOf s .refusal) (doubledSizeOf s .nets))
+size-answered s = figure-answered s _ (few-nets s)
+
+pub kind-answered : (s : List ℕ) (k : ℕ) → Answered (λ n. n ≤ 8192) (figureIn (doubledSizeOf s .refusal) (getD (doubledSizeOf s .kinds) k 0))
+kind-answered s k =
+    figure-answered s _
+    (λ e. rw (size-accepted s e) (omega (arith, count-few k (doubledNets (netsOf s)), doubled-length (netsOf s), size-none s .0 e .1)))
 
 -- so the numbers fit
 refusal-fits : {r : Refusal} → Tabled (r .number) (r .place) → refusalCode r < 2 ^ 64

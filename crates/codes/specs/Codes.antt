@@ -1,9 +1,11 @@
 -- Every answer as one number. Of the answers that calls give, the refusals are exactly those with a number of 2^32 or more; Readings.antt says how each is read back.
 use Prim.Native.Nat.{ℕ, _+_, _*_, _^_}
 use mathlib.Core.Option.{Option, none, some}
+use lib.ListN.{getD}
 use Rattle.refusals.specs.declared.answer.Refusal.{Refusal}
 use Rattle.cycle.specs.Cycle.{Verdict, clear, flow, FirstFlow}
 use Rattle.cycle.specs.Calls.{Answer, done, refused}
+use Rattle.figures.specs.Figures.{Figures}
 
 -- a refusal: its number × 2^32 + its place
 abbrev pub refusalCode : Refusal → ℕ
@@ -23,7 +25,20 @@ verdictCode (flow net) = net
 abbrev pub firstFlowCode : FirstFlow → ℕ
 firstFlowCode f = f .cycle * 65536 + verdictCode (f .verdict)
 
+-- one of the figures of the doubled netlist, where they are not refused
+abbrev pub figureIn : Option Refusal → (figure : ℕ) → Answer ℕ
+figureIn none figure = done figure
+figureIn (some r) figure = refused r
+
 -- a call with a result, and the number of that result
 abbrev pub answerCode : {A : Type 0} → (A → ℕ) → Answer A → ℕ
 answerCode code (done x) = code x
 answerCode code (refused r) = refusalCode r
+
+-- the doubled size: the number of nets
+abbrev pub sizeCode : Figures → ℕ
+sizeCode f = answerCode (λ n. n) (figureIn (f .refusal) (f .nets))
+
+-- the doubled size by kind: the number of nets of kind k, which is 0 for a k above 8
+abbrev pub kindCode : Figures → (k : ℕ) → ℕ
+kindCode f k = answerCode (λ n. n) (figureIn (f .refusal) (getD (f .kinds) k 0))

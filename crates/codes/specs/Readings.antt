@@ -5,13 +5,15 @@ use mathlib.Core.List.{List}
 use mathlib.Core.Option.{Option, none, some}
 use mathlib.Core.Bool.{cond}
 use lib.Dec.{eqb, ltb}
+use lib.ListN.{getD}
 use Rattle.refusals.specs.declared.answer.Refusal.{Refusal}
 use Rattle.refusals.specs.Refusals.{refusal}
 use Rattle.checking.specs.Check.{checkRefusal}
 use Rattle.cycle.specs.Cycle.{Verdict, clear, flow, FirstFlow}
 use Rattle.cycle.specs.Calls.{Answer, done, refused, powerUpOf, stepOf, runOf}
+use Rattle.figures.specs.Figures.{doubledSizeOf}
 use Rattle.doubling.specs.Doubling.{doubleOf}
-use Rattle.codes.specs.Codes.{refusalCode, outcomeCode, verdictCode, firstFlowCode, answerCode}
+use Rattle.codes.specs.Codes.{refusalCode, outcomeCode, verdictCode, firstFlowCode, figureIn, answerCode, sizeCode, kindCode}
 
 -- a refusal: its number stands above its place
 abbrev pub refusalRead : ℕ → Refusal
@@ -37,6 +39,10 @@ firstFlowRead n = record { cycle = n / 65536; verdict = verdictRead (n % 65536) 
 abbrev pub runRead : ℕ → Answer FirstFlow
 runRead n = cond (ltb n (2 ^ 32)) (done (firstFlowRead n)) (refused (refusalRead n))
 
+-- a figure of the doubled netlist: the number itself
+abbrev pub figureRead : ℕ → Answer ℕ
+figureRead n = cond (ltb n (2 ^ 32)) (done n) (refused (refusalRead n))
+
 -- for all calls, on any bytes: what is read from the number is the answer; proved as `reads`
 pub record CodesRead : Type 0 where
   pub check : (s : List ℕ) → outcomeRead (outcomeCode (checkRefusal s)) ≡ checkRefusal s
@@ -45,6 +51,9 @@ pub record CodesRead : Type 0 where
   pub run :
       (s st : List ℕ) (k : ℕ) (rows outputs : List ℕ)
       → runRead (answerCode firstFlowCode (runOf s st k rows outputs .answer)) ≡ runOf s st k rows outputs .answer
+  pub doubled-size : (s : List ℕ) → figureRead (sizeCode (doubledSizeOf s)) ≡ figureIn (doubledSizeOf s .refusal) (doubledSizeOf s .nets)
+  pub doubled-kind :
+      (s : List ℕ) (k : ℕ) → figureRead (kindCode (doubledSizeOf s) k) ≡ figureIn (doubledSizeOf s .refusal) (getD (doubledSizeOf s .kinds) k 0)
   pub double : (s buffer : List ℕ) → outcomeRead (outcomeCode (doubleOf s buffer .refusal)) ≡ doubleOf s buffer .refusal
   -- the numbers themselves: a refusal's number stands above its place, clear is 65,535, a flow its net, and a run's cycle stands above its verdict
   pub refusal-is : (r : Refusal) → refusalCode r ≡ r .number * 2 ^ 32 + r .place

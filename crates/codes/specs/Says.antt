@@ -5,15 +5,16 @@ use mathlib.Core.Path.{_≡_}
 use mathlib.Core.List.{List}
 use mathlib.Core.Option.{none}
 use lib.ListN.{length}
-use Rattle.image.specs.Image.{netsOf}
+use Rattle.image.specs.Image.{sizesOf, netsOf, count}
 use Rattle.checking.specs.Check.{checkRefusal}
 use Rattle.cycle.specs.Calls.{powerUpOf, stepOf, runOf}
+use Rattle.figures.specs.Figures.{doubledSizeOf}
 use Rattle.doubling.specs.Doubling.{doubleOf}
 use Rattle.claims.specs.Accepted.{AcceptedImage}
 use Rattle.claims.specs.Refused.{AnyCall, Refused}
 use Rattle.claims.specs.Verdicts.{MarkedOutput}
 use Rattle.claims.specs.InBytes.{fromPowerUp, SameMarks, StaysClear}
-use Rattle.codes.specs.Codes.{outcomeCode, verdictCode, firstFlowCode, answerCode}
+use Rattle.codes.specs.Codes.{outcomeCode, verdictCode, firstFlowCode, answerCode, sizeCode, kindCode}
 
 -- proved as `says`
 pub record NumbersSay : Type 0 where
@@ -28,6 +29,15 @@ pub record NumbersSay : Type 0 where
       (s st : List ℕ) (k : ℕ) (rows outputs : List ℕ) → 2 ^ 32 ≤ answerCode firstFlowCode (runOf s st k rows outputs .answer)
       → (runOf s st k rows outputs .state ≡ st) × (runOf s st k rows outputs .outputs ≡ outputs)
   pub double-kept : (s buf : List ℕ) → 2 ^ 32 ≤ outcomeCode (doubleOf s buf .refusal) → doubleOf s buf .buffer ≡ buf
+  -- a doubled size below 2^32: doubling accepts a buffer of 8 + 7 × as many bytes, and writes that many nets
+  pub doubled-size :
+      (s buf : List ℕ) → sizeCode (doubledSizeOf s) < 2 ^ 32 → length buf ≡ 8 + 7 * sizeCode (doubledSizeOf s)
+      → (doubleOf s buf .refusal ≡ none) × (sizesOf (doubleOf s buf .buffer) .nets ≡ sizeCode (doubledSizeOf s))
+  -- and, for a kind from 0 to 8, as many nets of that kind as the number for it says. There are none of a kind above 8
+  pub doubled-kind :
+      (s buf : List ℕ) (k : ℕ) → k ≤ 8 → doubleOf s buf .refusal ≡ none
+      → kindCode (doubledSizeOf s) k ≡ count k (netsOf (doubleOf s buf .buffer))
+  pub doubled-no-kind : (s buf : List ℕ) (k : ℕ) → 8 < k → doubleOf s buf .refusal ≡ none → kindCode (doubledSizeOf s) k ≡ 0
   -- a step answers 65,535: by the bytes that it leaves, no protected OUT is marked
   pub step-clear :
       (s st row nets : List ℕ) → answerCode verdictCode (stepOf s st row nets .answer) ≡ 65535

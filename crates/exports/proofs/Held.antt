@@ -2,10 +2,10 @@
 use Prim.Native.Nat.{ℕ, _+_, _*_, _/_, _%_, _≤_, _<_}
 use mathlib.Core.Path.{_≡_}
 use mathlib.Core.List.{List, [], _∷_, Forall₂, Forall₂·nil}
-use mathlib.Core.Option.{none}
+use mathlib.Core.Option.{none, some}
 use mathlib.Core.Bool.{true}
 use lib.Dec.{lit≤}
-use lib.ListN.{length, getD}
+use lib.ListN.{length, getD, replicate}
 use Rattle.gates.specs.Kinds.{CONST, INPUT, REG, NOT, AND, OR, XOR, MUX, OUT}
 use Rattle.gates.specs.Rules.{mark, notByte, andByte, orByte, xorByte, muxByte, gateByte}
 use Rattle.gates.specs.Relations.{AgreeByte, Agree, BelowByte, equal, zero-marked}
@@ -18,12 +18,14 @@ use Rattle.cycle.specs.Cycle.{Verdict, clear, flow, outputsFrom, cycleOf, First
 use Rattle.cycle.specs.Calls.{stateLength, done, powerUpRefusal, powerUpOf, Stepped, stepOf, stepRefusal, Ran, runOf, runRefusal}
 use Rattle.groups.specs.Groups.{groupLength, split}
 use Rattle.doubled.specs.Doubled.{groupAt, doubledSize, valueNet, markNet, doubledNets}
+use Rattle.figures.specs.Figures.{doubledSizeOf}
 use Rattle.doubling.specs.Doubling.{doubledImage, doubleRefusal, doubleOf}
 use Rattle.claims.specs.Reading.{twoBytes}
 use Rattle.claims.specs.Accepted.{AcceptedImage}
 use Rattle.claims.specs.Examples.{counted, twoRows}
 use Rattle.claims.specs.NetBytes.{netOf, placeOf, Counted, HasByte}
 use Rattle.claims.specs.Steps.{stepsOf, outputsIn, lastState}
+use Rattle.claims.specs.Bound.{orsImage}
 use Rattle.claims.specs.Groups.{oneOfEach, theirGroups}
 use Rattle.claims.specs.Verdicts.{MarkedOutput, Judged, lowest, First, first}
 use Rattle.claims.specs.History.{Call, step, run, accepted, CallResult, history, cyclesIn, TurnedBack, AllMade}
@@ -211,6 +213,24 @@ stays-unmarked : {s : List ℕ} {k : ℕ} {o o′ : Ran} → StaysClear s k o o�
     → (c i : ℕ) → c < k → i < sizesOf s .nets → netOf s i .kind ≡ OUT → netOf s i .b ≡ 1
     → let j = c * sizesOf s .outputs + placeOf OUT s i in (getD (o .outputs) j 0 / 2 % 2 ≡ 0) × (getD (o .outputs) j 0 ≡ getD (o′ .outputs) j 0)
 stays-unmarked c = c .protected
+
+-- HOW BIG IT GETS
+figures-accepted : (s : List ℕ) → AcceptedImage s → doubledSize (netsOf s) ≤ 8192 → doubledSizeOf s .refusal ≡ none
+figures-accepted s a few = promised .when-accepted .doubled-size s .1 (a, few)
+
+figures-of : (s buf : List ℕ) → doubleOf s buf .refusal ≡ none → doubledSizeOf s .bytes ≡ length (doubleOf s buf .buffer)
+figures-of s buf w = promised .figures-written s buf w .bytes
+
+figures-refused : (s : List ℕ) (r : Refusal) → doubledSizeOf s .refusal ≡ some r → doubledSizeOf s ≡ record { refusal = some r; nets = 0; bytes = 0; kinds = replicate 9 0 }
+figures-refused = promised .no-figures
+
+largest : (s : List ℕ) → checkRefusal s ≡ none → length (doubledNets (netsOf s)) + 6 ≤ 8 * sizesOf s .nets
+largest = promised .size-bound
+
+reached : (n : ℕ) → 1 ≤ n → n ≤ 8192
+    → (checkRefusal (orsImage n) ≡ none) × (sizesOf (orsImage n) .nets ≡ n) × ((p : ℕ) → getD (orsImage n) p 0 < 256)
+    × (length (doubledNets (netsOf (orsImage n))) + 6 ≡ 8 * n)
+reached n l m = let r = promised .bound-reached n l m in (r .accepted, r .nets, r .bytes, r .size)
 
 -- VERDICTS
 lowest-flow : {xs : List Net} {bs : List ℕ} {i : ℕ} → Judged xs bs (flow i) → MarkedOutput xs bs i × ((j : ℕ) → j < i → MarkedOutput xs bs j → ⊥)

@@ -1,12 +1,15 @@
 // The library for C and Rust: each call of the tracker under a plain name, with one number for its answer (include/tracker.h).
+use codes::figure_code;
+use codes::kind_code;
 use codes::outcome_code;
 use codes::run_code;
 use codes::step_code;
 ghost use mathlib.Core.Path.{_≡_};
 ghost use Rattle.checking.specs.Check.{checkRefusal};
 ghost use Rattle.cycle.specs.Calls.{powerUpOf, stepOf, runOf};
+ghost use Rattle.figures.specs.Figures.{doubledSizeOf};
 ghost use Rattle.doubling.specs.Doubling.{doubleOf};
-ghost use Rattle.codes.specs.Codes.{outcomeCode, verdictCode, firstFlowCode, answerCode};
+ghost use Rattle.codes.specs.Codes.{outcomeCode, verdictCode, firstFlowCode, answerCode, sizeCode, kindCode};
 
 // Whether an image is accepted.
 #[no_mangle]
@@ -53,6 +56,27 @@ pub extern "C" fn tracker_run(
 {
     let a = tracker::run(image, k, state, rows, outputs);
     run_code(a)
+}
+
+// The number of nets of the doubled netlist.
+#[no_mangle]
+pub extern "C" fn tracker_doubled_size(image: &[u8]) -> u64
+    ensures { λ r. ⌜ r ≡ sizeCode (doubledSizeOf (now (image .entry))) ⌝ }
+{
+    let d = figures::doubled_size(image);
+    let o = d.outcome;
+    figure_code(o, d.nets)
+}
+
+// The number of its nets of one kind.
+#[no_mangle]
+pub extern "C" fn tracker_doubled_kind(image: &[u8], kind: usize) -> u64
+    ensures { λ r. ⌜ r ≡ kindCode (doubledSizeOf (now (image .entry))) kind ⌝ }
+{
+    let d = figures::doubled_size(image);
+    let o = d.outcome;
+    let kinds = d.kinds;
+    kind_code(o, kinds, kind)
 }
 
 // The doubled netlist.
