@@ -11,80 +11,17 @@ ghost use Rattle.doubled.specs.Doubled.{doubledSize, doubledNets};
 ghost use Rattle.figures.specs.Tables.{groupKinds, places, raisedBy, NineCounts};
 
 // The kinds of the nets of each group, eight places for each of kinds 0 to 8.
-const GROUP_KINDS: [u8; 72] = [
-    0,
-    0,
-    0,
-    0,
-    0,
-    0,
-    0,
-    0, //
-    1,
-    1,
-    0,
-    0,
-    0,
-    0,
-    0,
-    0, //
-    2,
-    2,
-    0,
-    0,
-    0,
-    0,
-    0,
-    0, //
-    3,
-    5,
-    0,
-    0,
-    0,
-    0,
-    0,
-    0, //
-    4,
-    4,
-    4,
-    4,
-    5,
-    5,
-    0,
-    0, //
-    5,
-    3,
-    3,
-    4,
-    4,
-    4,
-    5,
-    5, //
-    6,
-    5,
-    0,
-    0,
-    0,
-    0,
-    0,
-    0, //
-    7,
-    5,
-    5,
-    5,
-    4,
-    7,
-    5,
-    0, //
-    8,
-    8,
-    0,
-    0,
-    0,
-    0,
-    0,
-    0, //
-];
+const GROUP_KINDS: [u8; 72] = *b"\
+    \x00\x00\x00\x00\x00\x00\x00\x00\
+    \x01\x01\x00\x00\x00\x00\x00\x00\
+    \x02\x02\x00\x00\x00\x00\x00\x00\
+    \x03\x05\x00\x00\x00\x00\x00\x00\
+    \x04\x04\x04\x04\x05\x05\x00\x00\
+    \x05\x03\x03\x04\x04\x04\x05\x05\
+    \x06\x05\x00\x00\x00\x00\x00\x00\
+    \x07\x05\x05\x05\x04\x07\x05\x00\
+    \x08\x08\x00\x00\x00\x00\x00\x00\
+    ";
 
 // The table by value, taken once a call.
 fn group_kinds() -> [u8; 72]
