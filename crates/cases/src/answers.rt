@@ -4,6 +4,7 @@ use cases_text::say_number;
 use cycle::RunAnswer;
 use cycle::StepAnswer;
 use cycle::Verdict;
+use figures::DoubledSize;
 use refusals::Outcome;
 use refusals::Refusal;
 
@@ -42,4 +43,23 @@ pub fn run_answer(a: RunAnswer) {
         }
         RunAnswer::Refused(r) => refusal(r),
     }
+}
+
+fn kind_counts(counts: [u16; 9]) {
+    say(b", kinds");
+    let mut kind: usize = 0;
+    while kind < 9 {
+        say_number(b" ", counts[kind] as usize);
+        kind += 1;
+    }
+}
+
+// The figures of a doubled netlist, beside a refusal as well.
+pub fn doubled_size(d: DoubledSize) {
+    let o = d.outcome;
+    outcome(o);
+    say_number(b", nets ", d.nets);
+    say_number(b", bytes ", d.bytes);
+    let counts = d.kinds;
+    kind_counts(counts);
 }

@@ -1,4 +1,5 @@
 // The calls of the library, each known by its letter.
+use crate::answers::doubled_size;
 use crate::answers::outcome;
 use crate::answers::run_answer;
 use crate::answers::step_answer;
@@ -57,6 +58,7 @@ fn answer(letter: u8, k: usize, image: &[u8], state: &mut [u8], rows: &[u8], buf
         b'S' => step_answer(tracker::step(image, state, rows, buffer)),
         b'R' => run_answer(tracker::run(image, k, state, rows, buffer)),
         b'D' => double(image, buffer, k),
+        b'F' => doubled_size(figures::doubled_size(image)),
         _ => say(b" [no such call]"),
     }
 }
