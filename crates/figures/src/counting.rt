@@ -40,7 +40,7 @@ fn raise(counts: [u16; 9], kind: u8) -> [u16; 9]
     more
 }
 
-// One more net of each kind that the table has at the places from j to end, without end.
+// One more net of each kind that the table has at the places from first to end, without end.
 fn count_group(counts: [u16; 9], kinds: &[u8; 72], first: usize, end: usize) -> [u16; 9]
     requires { ⌜ (now kinds ≡ groupKinds) × (first ≤ end) × (end ≤ 72) × NineCounts 8192 counts ⌝ }
     ensures { λ r. ⌜ r ≡ raisedBy counts (places groupKinds first end) ⌝ }
