@@ -1,24 +1,21 @@
 -- The figures are those of what doubling writes, and the call turns back as doubling does.
-use Prim.Native.Nat.{ℕ, _+_, _*_, _≤_}
+use Prim.Native.Nat.{ℕ, _+_, _*_}
 use native.Mathlib.Omega.{arith}
-use mathlib.Core.Path.{_≡_, refl, sym, ap, _∙_}
+use mathlib.Core.Path.{_≡_, sym, _∙_}
 use mathlib.Core.List.{List}
-use mathlib.Core.Option.{none, some}
 use lib.Dec.{ltb}
-use Rattle.image.specs.Image.{sizesOf, netsOf}
-use Rattle.refusals.specs.declared.answer.Refusal.{Refusal}
+use Rattle.image.specs.Image.{netsOf}
 use Rattle.refusals.specs.Refusals.{refuse, _then_, badLength}
 use Rattle.refusals.proofs.Refusals.{then-assoc}
 use Rattle.checking.specs.Check.{checkRefusal}
 use Rattle.checking.proofs.Counting.{counts-length, count-at}
 use Rattle.cycle.proofs.Calls.{either-way}
 use Rattle.doubled.specs.Doubled.{doubledSize, doubledNets}
-use Rattle.figures.specs.Figures.{sizeRefusal, doubledSizeOf}
+use Rattle.figures.specs.Figures.{sizeRefusal}
 use Rattle.figures.proofs.Refusing.{size-refused, size-accepted, size-none, size-given}
-use Rattle.doubling.specs.Doubling.{doubledImage, doubleRefusal, doubleOf}
+use Rattle.doubling.specs.Doubling.{doubleRefusal, doubleOf}
 use Rattle.doubling.proofs.Checks.{doubled-sizes, doubled-nets, doubled-image-length, double-none, double-accepted, double-refused}
-use Rattle.claims.specs.Figures.{FiguresOf, FiguresWritten, TurnsBackAlike, NoFigures}
-use Rattle.claims.proofs.Unchanged.{not-some}
+use Rattle.claims.specs.Figures.{FiguresWritten, TurnsBackAlike, NoFigures}
 
 -- what doubling gives is its chain of refusals, since 17 is never given
 doubling-gives : (s buf : List ℕ) → doubleOf s buf .refusal ≡ doubleRefusal s buf

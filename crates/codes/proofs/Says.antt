@@ -25,7 +25,7 @@ use Rattle.claims.proofs.Unchanged.{not-refused}
 use Rattle.claims.proofs.OneRun.{run-taken}
 use Rattle.claims.proofs.ClearRun.{cycles-length}
 use Rattle.claims.proofs.Promised.{promised}
-use Rattle.codes.specs.Codes.{outcomeCode, verdictCode, firstFlowCode, figureIn, answerCode, sizeCode, kindCode}
+use Rattle.codes.specs.Codes.{outcomeCode, verdictCode, firstFlowCode, answerCode, sizeCode, kindCode}
 use Rattle.codes.specs.Readings.{outcomeRead, stepRead, runRead}
 use Rattle.codes.specs.Says.{NumbersSay}
 use Rattle.codes.proofs.Given.{tabled}

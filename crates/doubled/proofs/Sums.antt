@@ -12,8 +12,8 @@ use Rattle.image.specs.declared.image.Net.{Net}
 use Rattle.image.specs.Image.{sizesOf, kindAt, netAt, netsOf}
 use Rattle.image.proofs.Nets.{net-in, length-nets}
 use Rattle.image.proofs.Encoding.{nothing}
-use Rattle.net_checking.proofs.Passes.{Passes, is-const, is-input, is-reg, is-not, is-and, is-or, is-xor, is-mux, is-out}
-use Rattle.checking.proofs.Checked.{AllPass, nil, cons, Checked}
+use Rattle.net_checking.proofs.Passes.{kind-most, Passes, is-const, is-input, is-reg, is-not, is-and, is-or, is-xor, is-mux, is-out}
+use Rattle.checking.proofs.Checked.{AllPass, nil, cons, Checked, net-passes}
 use Rattle.groups.specs.Groups.{groupLengths, groupLength, groupBy, groupOf}
 use Rattle.doubled.specs.Doubled.{doubledSize, valueNet, markNet, groupAt}
 use Rattle.doubled.specs.Starts.{Starts}
@@ -62,6 +62,11 @@ module _ {s : List ℕ} (c : Checked s) where
   pub mark-end : (i : ℕ) → markNet (netsOf s) i + 1 ≡ valueNet (netsOf s) (i + 1)
   unfolding markNet valueNet
   mark-end i = rw (add-one i) (let h = rw (add-one i) at (start-positive i) in omega (arith, h))
+
+  -- the kind of a net, which is its place in a table by kind
+  pub kind-small : {n : ℕ} (i : ℕ) → n ≡ sizesOf s .nets → i < n → kindAt s i < 9
+  unfolding netAt
+  kind-small {n} i e h = let p : kindAt s i ≤ 8 = kind-most (net-passes c e i h) in omega arith
 
   -- one net further
   pub next-start : {n : ℕ} (i : ℕ) → n ≡ sizesOf s .nets → i < n → valueNet (netsOf s) (i + 1) ≡ valueNet (netsOf s) i + groupLength (kindAt s i)

@@ -6,7 +6,7 @@ use mathlib.Core.Bool.{Bool, true, false}
 use native.Mathlib.Nat.{zero-add}
 use native.Mathlib.Omega.{arith}
 use lib.Dec.{T, eqb, ltb, ltb→lt}
-use lib.ListN.{length, getD, set, take, replicate, length-set}
+use lib.ListN.{length, getD, take, replicate, length-set}
 use lib.Seq.{getD-set-same, getD-set-other, take-all, take-suc, length-take-le}
 use borrow.Author.Tests.{eqb-true, eqb-false}
 use Rattle.gates.proofs.Laws.{and-T}

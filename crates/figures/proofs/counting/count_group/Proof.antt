@@ -4,7 +4,6 @@ use mathlib.Core.Path.{_≡_, refl}
 use native.Mathlib.Omega.{arith}
 use lib.ListN.{getD}
 use borrow.Author.Needs.{needs}
-use Rattle.checking.specs.Counts.{raised}
 use Rattle.figures.specs.Tables.{groupKinds, places, raisedBy, NineCounts}
 use Rattle.figures.proofs.Rows.{places-next, places-none, entry-small, table-long}
 use Rattle.figures.proofs.Raising.{raised-most}

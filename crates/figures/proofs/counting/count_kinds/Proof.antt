@@ -1,17 +1,16 @@
 -- `figures::counting::count_kinds` meets its contract: at net i the nets of the groups before it are counted.
 use Prim.Native.Nat.{_+_, _*_, _-_, _≤_, _<_}
-use mathlib.Core.Path.{_≡_, refl, sym, _∙_}
+use mathlib.Core.Path.{_≡_, sym, _∙_}
 use native.Mathlib.Numerals.{add-one}
 use native.Mathlib.Omega.{arith}
 use lib.ListN.{length, getD}
 use borrow.Author.Needs.{needs}
-use Rattle.image.specs.Image.{kindAt, netAt, netsOf}
+use Rattle.image.specs.Image.{netAt, netsOf}
 use Rattle.image.proofs.Nets.{net-in, length-nets}
 use Rattle.image.proofs.Encoding.{nothing}
-use Rattle.net_checking.proofs.Passes.{kind-most}
-use Rattle.checking.proofs.Checked.{Checked, check-none, net-passes}
+use Rattle.checking.proofs.Checked.{Checked, check-none}
 use Rattle.groups.specs.Groups.{groupLength}
-use Rattle.figures.specs.Tables.{raisedBy}
+use Rattle.doubled.proofs.Sums.{kind-small}
 use Rattle.figures.proofs.Rows.{row, row-ends}
 use Rattle.figures.proofs.Raising.{countsTo, counts-begin, counts-all, counts-next, counts-room}
 use Rattle.figures.proofs.counting.count_kinds.Statement.{statement}
@@ -36,12 +35,10 @@ kind-of-requires c κs =
     omega (arith, checked begin .exact, begin .pre .1, c .loop-test .taken)
 
 kind : (c : tie.After-kind-of Inv-loop μ-loop) → c .kind-of .result < 9
-unfolding netAt
 kind c =
     let at = c .before .before in
     let begin = at .before .before .before .before in
-    let most : kindAt (begin .args .image .now) (at .loop .i) ≤ 8 = kind-most (net-passes (checked begin) (begin .pre .1) (at .loop .i) (c .before .loop-test .taken)) in
-    omega (arith, c .kind-of .ensures, most)
+    rw (c .kind-of .ensures) (kind-small (checked begin) (at .loop .i) (begin .pre .1) (c .before .loop-test .taken))
 
 -- the length of its group
 long : (c : tie.After-kind-of Inv-loop μ-loop) → getD (c .before .before .before .group-lengths .result) (c .kind-of .result) 0 ≡ groupLength (c .kind-of .result)

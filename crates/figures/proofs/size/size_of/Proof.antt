@@ -4,14 +4,13 @@ use mathlib.Core.Path.{_≡_, sym, _∙_}
 use native.Mathlib.Omega.{arith}
 use lib.ListN.{getD}
 use borrow.Author.Needs.{needs}
-use Rattle.image.specs.Image.{kindAt, netAt, netsOf}
+use Rattle.image.specs.Image.{netsOf}
 use Rattle.image.proofs.Nets.{length-nets}
-use Rattle.net_checking.proofs.Passes.{kind-most}
-use Rattle.checking.proofs.Checked.{Checked, check-none, net-passes}
+use Rattle.checking.proofs.Checked.{Checked, check-none}
 use Rattle.groups.specs.Groups.{groupLength}
 use Rattle.doubled.specs.Doubled.{valueNet}
 use Rattle.doubled.proofs.Positions.{value-end}
-use Rattle.doubled.proofs.Sums.{start-zero, next-start, starts-fit}
+use Rattle.doubled.proofs.Sums.{start-zero, kind-small, next-start, starts-fit}
 use Rattle.figures.proofs.size.size_of.Statement.{statement}
 use Rattle.figures.proofs.size.size_of.Tie as tie
 
@@ -34,12 +33,10 @@ kind-of-requires c κs =
     omega (arith, checked begin .exact, begin .pre .1, c .loop-test .taken)
 
 kind : (c : tie.After-kind-of Inv-loop μ-loop) → c .kind-of .result < 9
-unfolding netAt
 kind c =
     let at = c .before .before in
     let begin = at .before .before .before in
-    let most : kindAt (begin .args .image .now) (at .loop .i) ≤ 8 = kind-most (net-passes (checked begin) (begin .pre .1) (at .loop .i) (c .before .loop-test .taken)) in
-    omega (arith, c .kind-of .ensures, most)
+    rw (c .kind-of .ensures) (kind-small (checked begin) (at .loop .i) (begin .pre .1) (c .before .loop-test .taken))
 
 next : (c : tie.After-kind-of Inv-loop μ-loop)
     → let at = c .before .before in
