@@ -10,7 +10,7 @@ ghost use Rattle.checking.specs.Counts.{kindCounts, raised};
 ghost use Rattle.doubled.specs.Doubled.{doubledSize, doubledNets};
 ghost use Rattle.figures.specs.Tables.{groupKinds, places, raisedBy, NineCounts};
 
-// The kinds of the nets of each group, eight places for each of kinds 0 to 8.
+// The kinds of the nets of each group, in document 01's order: a line of eight places for each of kinds 0 to 8. Places behind a group's last net are not read.
 const GROUP_KINDS: [u8; 72] = *b"\
     \x00\x00\x00\x00\x00\x00\x00\x00\
     \x01\x01\x00\x00\x00\x00\x00\x00\
@@ -30,7 +30,7 @@ fn group_kinds() -> [u8; 72]
     GROUP_KINDS
 }
 
-// One more net of a kind.
+// One more net of a kind: the counts by value, with its place raised.
 fn raise(counts: [u16; 9], kind: u8) -> [u16; 9]
     requires { ⌜ (kind < 9) × NineCounts 65534 counts ⌝ }
     ensures { λ r. ⌜ r ≡ raised counts kind ⌝ }
@@ -40,19 +40,17 @@ fn raise(counts: [u16; 9], kind: u8) -> [u16; 9]
     more
 }
 
-// One more net of each kind that the table has at the places from first to end, without end.
-fn count_group(counts: [u16; 9], kinds: &[u8; 72], first: usize, end: usize) -> [u16; 9]
-    requires { ⌜ (now kinds ≡ groupKinds) × (first ≤ end) × (end ≤ 72) × NineCounts 8192 counts ⌝ }
-    ensures { λ r. ⌜ r ≡ raisedBy counts (places groupKinds first end) ⌝ }
+// The nets of one group, whose kinds stand in the table from place first up to end.
+fn count_group(counts: &mut [u16; 9], kinds: &[u8; 72], first: usize, end: usize)
+    requires { ⌜ (now kinds ≡ groupKinds) × (first ≤ end) × (end ≤ 72) × NineCounts 8192 (now counts) ⌝ }
+    ensures { λ r. ⌜ now (counts .exit) ≡ raisedBy (now (counts .entry)) (places groupKinds first end) ⌝ }
 {
-    let mut more = counts;
     let mut j = first;
     while j < end {
-        let next = raise(more, kinds[j]);
-        more = next;
+        let next = raise(*counts, kinds[j]);
+        *counts = next;
         j += 1;
     }
-    more
 }
 
 // The nets of each kind of the doubled netlist of an accepted image, group by group.
@@ -67,8 +65,7 @@ pub fn count_kinds(image: &[u8], n: usize) -> [u16; 9]
     while i < n {
         let kind = kind_of(image, i) as usize;
         let first = 8 * kind;
-        let next = count_group(counts, &kinds, first, first + lengths[kind] as usize);
-        counts = next;
+        count_group(&mut counts, &kinds, first, first + lengths[kind] as usize);
         i += 1;
     }
     counts

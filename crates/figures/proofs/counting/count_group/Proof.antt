@@ -11,11 +11,11 @@ use Rattle.figures.proofs.counting.count_group.Statement.{statement}
 use Rattle.figures.proofs.counting.count_group.Tie as tie
 
 abbrev Inv-loop : tie.InvT-loop
-Inv-loop kinds first end more₀ j₀ more j =
-    (j ≤ end) × NineCounts (8192 + j) more × (raisedBy more (places groupKinds j end) ≡ raisedBy more₀ (places groupKinds first end))
+Inv-loop counts₀ kinds first end j₀ counts j =
+    (j ≤ end) × NineCounts (8192 + j) counts × (raisedBy counts (places groupKinds j end) ≡ raisedBy counts₀ (places groupKinds first end))
 
 abbrev μ-loop : tie.MeasureT-loop
-μ-loop kinds first end more₀ j₀ more j = end - j
+μ-loop counts₀ kinds first end j₀ counts j = end - j
 
 loop-holds : tie.Need-loop-holds Inv-loop μ-loop
 loop-holds c = let room = c .pre .3 in (c .pre .1, record { nine = room .nine; most = λ k h. omega (arith, room .most k h) }, refl)
@@ -31,15 +31,16 @@ small c = rw (this-kind c) (entry-small _ (omega (arith, c .loop-test .taken, c 
 
 raise-requires : tie.Need-raise-requires Inv-loop μ-loop
 raise-requires c κs =
-    let at = c .before .before in
+    let turn = c .before .before in
+    let at = turn .before in
     let room = at .loop .inv .1 in
     let few = at .before .pre .2 in
-    (small (c .before), record { nine = room .nine; most = λ k h. omega (arith, room .most k h, c .before .loop-test .taken, few) })
+    (small turn, record { nine = room .nine; most = λ k h. omega (arith, room .most k h, turn .loop-test .taken, few) })
 
 loop-again : tie.Need-loop-again Inv-loop μ-loop
 unfolding raisedBy
 loop-again c =
-    let turn = c .before .before in
+    let turn = c .before .before .before in
     let at = turn .before in
     let k = getD (at .before .args .kinds .now) (at .loop .j) 0 in
     let one-more : 8192 + (at .loop .j + 1) ≡ 8192 + at .loop .j + 1 = omega arith in

@@ -50,10 +50,11 @@ within c = rw (long c) (row-ends _ (kind c))
 
 count-group-requires : tie.Need-count-group-requires Inv-loop μ-loop
 count-group-requires c κs =
-    let at = c .before .before .before in
+    let read = c .before .before in
+    let at = read .before .before in
     let begin = at .before .before .before .before in
     let room = counts-room (netsOf (begin .args .image .now)) (at .loop .i) 8192 (begin .pre .2) in
-    (at .before .before .group-kinds .ensures, omega arith, within (c .before), rw (at .loop .inv .1) room)
+    (at .before .before .group-kinds .ensures, omega arith, within read, rw (at .loop .inv .1) room)
 
 -- net i, in the list of nets
 this : (c : tie.After-kind-of Inv-loop μ-loop)
@@ -67,7 +68,7 @@ this c =
 
 loop-again : tie.Need-loop-again Inv-loop μ-loop
 loop-again c =
-    let read = c .before .before in
+    let read = c .before .before .before in
     let at = read .before .before in
     let begin = at .before .before .before .before in
     let xs = netsOf (begin .args .image .now) in
@@ -94,10 +95,10 @@ count-kinds-spec =
     kind-of-requires
     (λ c. omega (arith, kind c))
     (λ c. omega (arith, kind c))
-    (λ c. omega (arith, kind (c .before)))
-    (λ c. kind (c .before))
+    (λ c. omega (arith, kind (c .before .before)))
+    (λ c. kind (c .before .before))
     (λ c. search needs)
-    (λ c. omega (arith, within (c .before)))
+    (λ c. omega (arith, within (c .before .before)))
     count-group-requires
     (λ c. search needs)
     (λ c. search needs)
