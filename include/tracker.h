@@ -23,8 +23,9 @@
  * Every answer is one number:
  *   - of a call that turned back: the refusal's number x 2^32 + its place. No lent byte has changed, but that 17 sets `buffer` to 0;
  *   - otherwise a number below 2^32: of a check, a power-up or a doubling 0; of a step its verdict, 65,535 for clear or the net of the flow; of a run
- *     the cycle x 65,536 + the verdict.
- * No verdict is 0, since net 0 is never an OUT. So an answer variable that is still 0, or the answer of tracker_check, does not read as clear.
+ *     the cycle x 65,536 + the verdict; of tracker_doubled_size and tracker_doubled_kind a number of nets, at most 8,192.
+ * No verdict is 0, since net 0 is never an OUT. So an answer variable that is still 0, or the answer of tracker_check, does not read as clear; nor
+ * does a number of nets.
  */
 #ifndef TRACKER_H
 #define TRACKER_H
@@ -85,7 +86,17 @@ uint64_t tracker_run(const uint8_t *image, size_t image_length,
                      const uint8_t *rows, size_t rows_length,
                      uint8_t *outputs, size_t outputs_length);
 
-/* Writes the doubled netlist, 8 + 7 x (its number of nets) bytes. Answers 0, or one of the refusals 1 to 8 and 15 to 17. */
+/* How big the doubled netlist gets. Writes nothing. Answers with the number of its nets, 2 to 8,192, or one of the refusals 1 to 8 and 15, with which
+ * tracker_double would turn back too. */
+uint64_t tracker_doubled_size(const uint8_t *image, size_t image_length);
+
+/* How many nets of one kind, 0 to 8, the doubled netlist has. Writes nothing. Answers with that number, which is 0 for every kind above 8, or with the
+ * refusal of tracker_doubled_size, whatever the kind. The numbers of kinds 0 to 8 add up to the number of its nets. */
+uint64_t tracker_doubled_kind(const uint8_t *image, size_t image_length,
+                              size_t kind);
+
+/* Writes the doubled netlist, 8 + 7 x (its number of nets) bytes: tracker_image_length gives them for the answer of tracker_doubled_size. Answers 0, or
+ * one of the refusals 1 to 8 and 15 to 17. */
 uint64_t tracker_double(const uint8_t *image, size_t image_length,
                         uint8_t *buffer, size_t buffer_length);
 
@@ -108,6 +119,13 @@ static inline int tracker_is_clear(uint64_t answer) { return tracker_flow(answer
 
 /* The cycle in the answer of a run that did not turn back. */
 static inline uint32_t tracker_cycle(uint64_t answer) { return (uint32_t)answer >> 16; }
+
+/* The bytes of an image of so many nets, 8 + 7 x nets. For an answer of tracker_doubled_size they are those of the doubled image, and 0 where that call
+ * turned back. */
+static inline size_t tracker_image_length(uint64_t nets)
+{
+    return tracker_refusal(nets) != 0 ? 0 : (size_t)(8 + 7 * nets);
+}
 
 #ifdef __cplusplus
 }

@@ -113,33 +113,55 @@ static void power_up_and_run(void)
     printf("\n");
 }
 
-/* The doubled netlist has 16 nets: two for each net of the counter, but six for its AND. */
-static void double_counter(uint8_t doubled[120])
+/* Prints the nets of the doubled netlist, the bytes of its image, and its nets of each kind, CONST to OUT. Answers the bytes, or 0 after a refusal. */
+static size_t print_doubled_size(const uint8_t *image, size_t image_length)
 {
-    printf("double into 119 bytes: ");
-    print_done(tracker_double(counter, sizeof counter, doubled, 119));
+    uint64_t nets = tracker_doubled_size(image, image_length);
+    size_t bytes = tracker_image_length(nets);
 
-    printf("\ndouble into 120 bytes: ");
-    print_done(tracker_double(counter, sizeof counter, doubled, 120));
+    if (print_refusal(nets))
+        return 0;
+    printf("%" PRIu64 " nets, %zu bytes; kinds", nets, bytes);
+    for (size_t kind = 0; kind <= 8; kind++)
+        printf(" %" PRIu64, tracker_doubled_kind(image, image_length, kind));
+    return bytes;
+}
+
+/* The bytes of the largest image, which are room for every doubled one. */
+enum { LARGEST_IMAGE = 8 + 7 * TRACKER_MOST_NETS };
+
+/* Lends the whole room, which is refused, and then the bytes of the doubled image alone. Answers these bytes. */
+static size_t double_counter(uint8_t doubled[LARGEST_IMAGE])
+{
+    size_t length;
+
+    printf("doubled size: ");
+    length = print_doubled_size(counter, sizeof counter);
+    printf("\ndouble into %d bytes: ", LARGEST_IMAGE);
+    print_done(tracker_double(counter, sizeof counter, doubled, LARGEST_IMAGE));
+
+    printf("\ndouble into %zu bytes: ", length);
+    print_done(tracker_double(counter, sizeof counter, doubled, length));
     printf("; sizes");
     for (size_t i = 0; i < 8; i += 2)
         printf(" %u", doubled[i] + 256u * doubled[i + 1]);
     printf("\n");
+    return length;
 }
 
 /* Each row byte of the counter, value + 2 x mark, becomes the two bytes value and mark. */
-static void run_doubled(const uint8_t doubled[120])
+static void run_doubled(const uint8_t *doubled, size_t length)
 {
     uint8_t state[2] = { 0 };
     uint8_t outputs[8] = { 0 };
     const uint8_t rows[8] = { 0, 1, 0, 0, 1, 0, 0, 0 };
 
     printf("power-up of the doubled: ");
-    print_done(tracker_power_up(doubled, 120, state, sizeof state));
+    print_done(tracker_power_up(doubled, length, state, sizeof state));
     print_bytes("state", state, sizeof state);
 
     printf("\nrun of the doubled on 0 1 0 0 1 0 0 0: ");
-    print_first_flow(tracker_run(doubled, 120, 4, state, sizeof state, rows, sizeof rows, outputs, sizeof outputs));
+    print_first_flow(tracker_run(doubled, length, 4, state, sizeof state, rows, sizeof rows, outputs, sizeof outputs));
     print_bytes("outputs", outputs, sizeof outputs);
     print_bytes("state", state, sizeof state);
     printf("\n");
@@ -154,12 +176,15 @@ static void check_damaged(void)
     damaged[POLICY_OF_NET_5] = 2;
     printf("check of the damaged: ");
     print_done(tracker_check(damaged, sizeof damaged));
+    printf("\ndoubled size of the damaged: ");
+    print_doubled_size(damaged, sizeof damaged);
     printf("\n");
 }
 
 int main(void)
 {
-    uint8_t doubled[120] = { 0 };
+    static uint8_t doubled[LARGEST_IMAGE];
+    size_t length;
 
     printf("check: ");
     print_done(tracker_check(counter, sizeof counter));
@@ -167,8 +192,8 @@ int main(void)
     power_up_and_step();
     answers_that_are_not_clear();
     power_up_and_run();
-    double_counter(doubled);
-    run_doubled(doubled);
+    length = double_counter(doubled);
+    run_doubled(doubled, length);
     check_damaged();
     return 0;
 }
