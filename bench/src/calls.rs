@@ -2,14 +2,13 @@
 
 use std::hint::black_box;
 
-use crate::accepted::doubled_nets;
 use crate::aligned::{print, row};
 use crate::cases::Bytes;
 use crate::count::{counted, valgrind_is_there};
 use crate::generate::image;
 use crate::libraries::{named, Library, LIBRARIES};
 use crate::mix::{Mix, MIXES};
-use tracker::image_length;
+use tracker::doubled_size;
 
 /// The calls, and the nets of the image that each is made on. A run has one
 /// cycle, and the doubled netlist has to stay within 8,192 nets.
@@ -50,7 +49,7 @@ fn buffer_length(name: &str, bytes: &Bytes) -> usize {
     match name {
         "step" => bytes.sizes.nets,
         "run" => bytes.sizes.outputs,
-        "double" => image_length(doubled_nets(&bytes.image)),
+        "double" => doubled_size(&bytes.image).expect("a doubled size").bytes,
         _ => 0,
     }
 }

@@ -4,13 +4,12 @@
 use std::hint::black_box;
 use std::time::Instant;
 
-use crate::accepted::doubled_nets;
 use crate::aligned::{print, row};
 use crate::generate::image;
 use crate::libraries::{Library, LIBRARIES};
 use crate::mix::Mix;
 use crate::rounds::low_and_median;
-use tracker::image_length;
+use tracker::doubled_size;
 
 /// The source nets. The doubled netlist has to stay within 8,192 nets.
 const CHECKED: [usize; 4] = [1024, 2048, 4096, 8192];
@@ -24,7 +23,8 @@ const SEED: u64 = 3;
 const ROUNDS: usize = 501;
 const CALLS: usize = 8;
 
-/// A size with its source image and the buffer for its doubled image.
+/// A size with its source image and the buffer for its doubled image. Where there
+/// is no doubled image, since it would be too large, its nets and bytes are 0.
 struct Size {
     nets: usize,
     doubled: usize,
@@ -35,12 +35,13 @@ struct Size {
 /// The bytes of a netlist of n nets.
 fn size(nets: usize) -> Size {
     let image = image(Mix::Equal, nets, SEED, true);
-    let doubled = doubled_nets(&image);
+    let doubled = doubled_size(&image).map(|size| (size.nets, size.bytes));
+    let (doubled, bytes) = doubled.unwrap_or_default();
     Size {
         nets,
         doubled,
         image,
-        buffer: vec![0; image_length(doubled)],
+        buffer: vec![0; bytes],
     }
 }
 

@@ -2,8 +2,9 @@
 //! follow.
 
 use crate::call::{Call, Name};
+use reference::GROUP_LENGTHS;
 use tracker::kinds::OUT;
-use tracker::{image_length, Net, Sizes, GROUP_LENGTHS, MOST_CYCLES, MOST_NETS};
+use tracker::{image_length, Net, Sizes, MOST_CYCLES, MOST_NETS};
 
 #[derive(Clone, Debug)]
 pub struct Counts {

@@ -3,8 +3,9 @@
 use crate::kinds;
 use crate::pins::{draw_net, Style};
 use crate::random::Random;
+use reference::GROUP_LENGTHS;
 use tracker::kinds::{CONST, INPUT, MUX, OUT, REG};
-use tracker::{Net, GROUP_LENGTHS, MOST_NETS};
+use tracker::{Net, MOST_NETS};
 
 /// A netlist of so many nets, at least 1.
 pub fn of_size(random: &mut Random, size: usize) -> Vec<Net> {

@@ -3,8 +3,9 @@
 //! The upper 32 bits of an answer are the number of a refusal, and the lower 32
 //! its place. Where the upper are 0 the call did not turn back: the lower are 0
 //! for done; for a step the code of its verdict; for a run the cycle × 65,536 +
-//! the code of its verdict. The code of a verdict is 65,535 for clear, and the
-//! flow's net for a flow. It is never 0, since net 0 is no OUT.
+//! the code of its verdict; for a figure of the doubled netlist the number of
+//! nets. The code of a verdict is 65,535 for clear, and the flow's net for a
+//! flow. It is never 0, since net 0 is no OUT.
 
 use crate::{FirstFlow, Reason, Refusal, Verdict, MOST_CYCLES, MOST_NETS};
 
@@ -28,6 +29,23 @@ pub(crate) fn run(answer: u64) -> Result<FirstFlow, Refusal> {
     let cycle = low / 65_536;
     match verdict(low % 65_536) {
         Some(verdict) if cycle <= MOST_CYCLES => Ok(FirstFlow { cycle, verdict }),
+        _ => unknown(answer),
+    }
+}
+
+/// The answer with the number of nets of the doubled netlist. It is at least 2,
+/// since each net becomes two or more.
+pub(crate) fn doubled_size(answer: u64) -> Result<usize, Refusal> {
+    match accepted(answer)? {
+        nets @ 2..=MOST_NETS => Ok(nets),
+        _ => unknown(answer),
+    }
+}
+
+/// The answer with the number of nets of one kind of the doubled netlist.
+pub(crate) fn doubled_kind(answer: u64) -> Result<usize, Refusal> {
+    match accepted(answer)? {
+        nets @ 0..=MOST_NETS => Ok(nets),
         _ => unknown(answer),
     }
 }

@@ -1,6 +1,7 @@
-//! The five calls.
+//! The six calls.
 
-use crate::{answers, ffi, FirstFlow, Refusal, Verdict};
+use crate::kinds::{AND, CONST, INPUT, MUX, NOT, OR, OUT, REG, XOR};
+use crate::{answers, ffi, image_length, DoubledSize, FirstFlow, Refusal, Verdict};
 
 /// Checks whether an image is a netlist.
 ///
@@ -119,11 +120,52 @@ pub fn run(
     answers::run(ffi::run(image, k, state, rows, outputs))
 }
 
+/// Says how big the doubled netlist gets, and writes nothing.
+///
+/// The figures are those of the image that [`double`] then writes. The nets and
+/// the nets of each kind are asked for one by one: ten calls of the static
+/// library, each of which checks the image anew, or one where it is refused.
+///
+/// # Errors
+///
+/// Turns back with one of the refusals 1 to 8 and 15, as [`double`] does.
+///
+/// # Example
+///
+/// ```
+/// use tracker::{doubled_size, encode, kinds, Net};
+///
+/// // An INPUT becomes two, and an OR becomes three ORs, two NOTs and three ANDs.
+/// let image = encode(&[Net::new(kinds::INPUT, 0, 0, 0), Net::new(kinds::OR, 0, 0, 0)]);
+/// let size = doubled_size(&image)?;
+/// assert_eq!(size.nets, 10);
+/// assert_eq!(size.bytes, 8 + 7 * 10);
+/// assert_eq!((size.inputs, size.ors, size.nots, size.ands), (2, 3, 2, 3));
+/// assert_eq!(size.muxes, 0);
+/// # Ok::<(), tracker::Refusal>(())
+/// ```
+pub fn doubled_size(image: &[u8]) -> Result<DoubledSize, Refusal> {
+    let nets = answers::doubled_size(ffi::doubled_size(image))?;
+    let of_kind = |kind| answers::doubled_kind(ffi::doubled_kind(image, usize::from(kind)));
+    Ok(DoubledSize {
+        nets,
+        bytes: image_length(nets),
+        consts: of_kind(CONST)?,
+        inputs: of_kind(INPUT)?,
+        registers: of_kind(REG)?,
+        nots: of_kind(NOT)?,
+        ands: of_kind(AND)?,
+        ors: of_kind(OR)?,
+        xors: of_kind(XOR)?,
+        muxes: of_kind(MUX)?,
+        outputs: of_kind(OUT)?,
+    })
+}
+
 /// Writes the image of the doubled netlist.
 ///
-/// The buffer has exactly the doubled image's length, which is the
-/// [`image_length`](crate::image_length) of the sum of the nets'
-/// [`GROUP_LENGTHS`](crate::GROUP_LENGTHS).
+/// The buffer has exactly the doubled image's length, the `bytes` of its
+/// [`doubled_size`].
 ///
 /// # Errors
 ///
@@ -132,11 +174,11 @@ pub fn run(
 /// # Example
 ///
 /// ```
-/// use tracker::{double, encode, image_length, kinds, Image, Net};
+/// use tracker::{double, doubled_size, encode, kinds, Image, Net};
 ///
 /// // An INPUT, and a protected OUT on it, become four nets.
 /// let image = encode(&[Net::new(kinds::INPUT, 0, 0, 0), Net::new(kinds::OUT, 0, 1, 0)]);
-/// let mut doubled = [0; image_length(4)];
+/// let mut doubled = vec![0; doubled_size(&image)?.bytes];
 /// double(&image, &mut doubled)?;
 /// let doubled = Image::of(&doubled).unwrap();
 /// assert_eq!(doubled.sizes().outputs, 2);

@@ -38,6 +38,10 @@ extern "C" {
         outputs: *mut u8,
         outputs_length: usize,
     ) -> u64;
+    /// How many nets the doubled netlist has.
+    pub fn tracker_doubled_size(image: *const u8, image_length: usize) -> u64;
+    /// How many nets of one kind the doubled netlist has.
+    pub fn tracker_doubled_kind(image: *const u8, image_length: usize, kind: usize) -> u64;
     /// Writes the doubled netlist.
     pub fn tracker_double(
         image: *const u8,
@@ -99,6 +103,20 @@ pub fn run(image: &[u8], k: usize, state: &mut [u8], rows: &[u8], outputs: &mut 
             outputs.len(),
         )
     }
+}
+
+/// How many nets the doubled netlist has.
+pub fn doubled_size(image: &[u8]) -> u64 {
+    // SAFETY: The pointer and the length are those of a slice, which is
+    // borrowed until the call returns and is only read.
+    unsafe { tracker_doubled_size(image.as_ptr(), image.len()) }
+}
+
+/// How many nets of one kind the doubled netlist has.
+pub fn doubled_kind(image: &[u8], kind: usize) -> u64 {
+    // SAFETY: The pointer and the length are those of a slice, which is
+    // borrowed until the call returns and is only read.
+    unsafe { tracker_doubled_kind(image.as_ptr(), image.len(), kind) }
 }
 
 /// Writes the doubled netlist.

@@ -24,12 +24,13 @@
 //! | [`power_up`] | sets each register to its start | 1 to 8 and 10 |
 //! | [`step`] | takes one cycle | 1 to 8 and 10 to 14 |
 //! | [`run`] | takes K cycles | 1 to 14 |
+//! | [`doubled_size`] | says how big the doubled netlist gets | 1 to 8 and 15 |
 //! | [`double`] | writes the doubled netlist | 1 to 8 and 15 to 17 |
 //!
 //! Every call checks the image anew and depends on nothing but what it is lent.
 //! A call that turns back answers with a [`Refusal`] and has changed no lent
 //! byte, except at [`Reason::DoubledRefused`]. Each buffer must have its exact
-//! length, for which [`sizes`] and [`image_length`] help.
+//! length, for which [`sizes`] and [`doubled_size`] help.
 //!
 //! # Images
 //!
@@ -50,10 +51,10 @@
 
 mod answers;
 mod calls;
+mod doubled_size;
 mod encoding;
 #[allow(unsafe_code)]
 pub mod ffi;
-mod groups;
 mod image;
 pub mod kinds;
 mod layout;
@@ -64,9 +65,9 @@ mod refusal;
 mod sizes;
 mod verdict;
 
-pub use calls::{check, double, power_up, run, step};
+pub use calls::{check, double, doubled_size, power_up, run, step};
+pub use doubled_size::DoubledSize;
 pub use encoding::{encode, encode_with};
-pub use groups::GROUP_LENGTHS;
 pub use image::Image;
 pub use layout::{image_length, kind_place, operand_place};
 pub use limits::{MOST_CYCLES, MOST_NETS};

@@ -1,7 +1,7 @@
 //! The small examples of the specification's table of refusals, each by a call
 //! of the static library. No refused call changes a lent byte.
 
-use tracker::{check, double, encode, encode_with, image_length, kinds, power_up, run, step};
+use tracker::{check, double, doubled_size, encode, encode_with, kinds, power_up, run, step};
 use tracker::{Net, Reason, Refusal, Sizes};
 
 const CONST: Net = Net::new(kinds::CONST, 0, 0, 0);
@@ -14,32 +14,39 @@ fn refused<T>(reason: Reason, place: usize) -> Result<T, Refusal> {
     Err(Refusal { reason, place })
 }
 
+/// The answer of a check that turns back. The doubled size turns back alike.
+fn checked(image: &[u8]) -> Result<(), Refusal> {
+    let answer = check(image);
+    assert_eq!(doubled_size(image).map(|_| ()), answer);
+    answer
+}
+
 #[test]
 fn lengths_of_the_image() {
-    assert_eq!(check(&[]), refused(Reason::ImageTooShort, 0));
-    assert_eq!(check(&[0; 7]), refused(Reason::ImageTooShort, 0));
-    assert_eq!(check(&[0; 8]), refused(Reason::NetsOutOfRange, 0));
+    assert_eq!(checked(&[]), refused(Reason::ImageTooShort, 0));
+    assert_eq!(checked(&[0; 7]), refused(Reason::ImageTooShort, 0));
+    assert_eq!(checked(&[0; 8]), refused(Reason::NetsOutOfRange, 0));
     // 8,193 is 32 × 256 + 1.
     let head = [1, 32, 0, 0, 0, 0, 0, 0];
-    assert_eq!(check(&head), refused(Reason::NetsOutOfRange, 0));
+    assert_eq!(checked(&head), refused(Reason::NetsOutOfRange, 0));
     let mut long = encode(&[CONST]);
     long.push(0);
     assert_eq!(long.len(), 16);
-    assert_eq!(check(&long), refused(Reason::ImageLength, 0));
+    assert_eq!(checked(&long), refused(Reason::ImageLength, 0));
 }
 
 #[test]
 fn nets_of_the_image() {
     let bad = |kind, a, b| {
         let nets = [CONST, Net::new(kind, a, b, 0)];
-        check(&encode_with(Sizes::of(&[CONST, CONST]), &nets))
+        checked(&encode_with(Sizes::of(&[CONST, CONST]), &nets))
     };
     assert_eq!(bad(9, 0, 0), refused(Reason::Kind, 1));
     assert_eq!(bad(kinds::NOT, 1, 0), refused(Reason::Pin, 1));
     assert_eq!(bad(kinds::REG, 0, 3), refused(Reason::Value, 1));
     assert_eq!(bad(kinds::INPUT, 1, 0), refused(Reason::UnlistedOperand, 1));
     let sizes = Sizes::of(&[INPUT]);
-    let answer = check(&encode_with(sizes, &[CONST]));
+    let answer = checked(&encode_with(sizes, &[CONST]));
     assert_eq!(answer, refused(Reason::Counts, 0));
 }
 
@@ -103,12 +110,16 @@ fn cycles_rows_and_buffers_of_a_run() {
 fn sizes_of_the_doubled() {
     let mut nets = vec![OR; 1_025];
     nets[0] = CONST;
-    let answer = double(&encode(&nets), &mut [7]);
+    let source = encode(&nets);
+    let answer = double(&source, &mut [7]);
     assert_eq!(answer, refused(Reason::DoubledTooLarge, 0));
+    assert_eq!(doubled_size(&source), refused(Reason::DoubledTooLarge, 0));
 
     nets[1_024] = AND;
     let source = encode(&nets);
-    let mut buffer = vec![7; image_length(8_192) - 1];
+    let size = doubled_size(&source).unwrap();
+    assert_eq!((size.nets, size.bytes), (8_192, 57_352));
+    let mut buffer = vec![7; size.bytes - 1];
     assert_eq!(
         double(&source, &mut buffer),
         refused(Reason::DoubledLength, 0)

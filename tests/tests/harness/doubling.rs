@@ -1,8 +1,8 @@
 //! Stand-ins that get doubling wrong.
 
-use crate::parts::{bytes_mut, read};
+use crate::parts::{bytes, bytes_mut, read};
 use tests::{Calls, LIBRARY};
-use tracker::{image_length, operand_place, GROUP_LENGTHS};
+use tracker::{doubled_size, operand_place};
 
 /// Writes a doubled image with one wrong byte: operand a of its last net. The
 /// mark net of the last group then reads another net.
@@ -45,11 +45,8 @@ unsafe extern "C" fn double_longer(i: *const u8, il: usize, buffer: *mut u8, bl:
     if answer >> 32 != 16 {
         return answer;
     }
-    let kinds = read(i, il).kinds().iter();
-    let doubled = kinds.map(|kind| GROUP_LENGTHS[usize::from(*kind)]).sum();
-    let length = image_length(doubled);
-    if bl < length {
-        return answer;
+    match doubled_size(bytes(i, il)) {
+        Ok(size) if size.bytes < bl => (LIBRARY.double)(i, il, buffer, size.bytes),
+        _ => answer,
     }
-    (LIBRARY.double)(i, il, buffer, length)
 }

@@ -35,7 +35,16 @@ fn a_run_holds_its_cycle_above_its_verdict() {
     assert_eq!(run(268_500_991), first_flow(4_096, Verdict::Clear));
 }
 
-// 1, 6, 9, 13, 16 and 17 times 2^32, and the place: 33,554,431 is the index of
+#[test]
+fn a_figure_is_a_number_of_nets() {
+    assert_eq!(doubled_size(2), Ok(2));
+    assert_eq!(doubled_size(16), Ok(16));
+    assert_eq!(doubled_size(8_192), Ok(8_192));
+    assert_eq!(doubled_kind(0), Ok(0));
+    assert_eq!(doubled_kind(8_192), Ok(8_192));
+}
+
+// 1, 6, 9, 13, 15, 16 and 17 times 2^32, and the place: 33,554,431 is the index of
 // the last of 4,096 × 8,192 row bytes.
 #[test]
 fn a_refusal_holds_its_number_above_the_place() {
@@ -44,6 +53,10 @@ fn a_refusal_holds_its_number_above_the_place() {
     assert_eq!(step(25_769_803_781), refused(Reason::Value, 5));
     assert_eq!(run(38_654_705_664), refused(Reason::TooManyCycles, 0));
     assert_eq!(run(55_868_129_279), refused(Reason::RowByte, 33_554_431));
+    let too_large = refused(Reason::DoubledTooLarge, 0);
+    assert_eq!(doubled_size(64_424_509_440), too_large);
+    assert_eq!(doubled_kind(64_424_509_440), too_large);
+    assert_eq!(doubled_kind(25_769_803_781), refused(Reason::Value, 5));
     assert_eq!(done(68_719_476_736), refused(Reason::DoubledLength, 0));
     assert_eq!(done(73_014_444_032), refused(Reason::DoubledRefused, 0));
 }
@@ -110,4 +123,22 @@ fn a_run_with_a_flow_at_net_8192_is_unknown() {
 #[should_panic(expected = "the answer 268566527, which")]
 fn a_run_with_cycle_4097_is_unknown() {
     let _ = run(268_566_527);
+}
+
+#[test]
+#[should_panic(expected = "the answer 8193, which")]
+fn a_doubled_netlist_of_8193_nets_is_unknown() {
+    let _ = doubled_size(8_193);
+}
+
+#[test]
+#[should_panic(expected = "the answer 0, which")]
+fn a_doubled_netlist_without_nets_is_unknown() {
+    let _ = doubled_size(0);
+}
+
+#[test]
+#[should_panic(expected = "the answer 65535, which")]
+fn a_verdict_is_no_figure() {
+    let _ = doubled_kind(65_535);
 }
