@@ -1,12 +1,14 @@
 //! One call, with the bytes that it is lent beside the image.
 
-/// The five calls.
+/// The seven calls.
 #[derive(Clone, Copy, Debug, PartialEq, Eq)]
 pub enum Name {
     Check,
     PowerUp,
     Step,
     Run,
+    DoubledSize,
+    DoubledKind,
     Double,
 }
 
@@ -18,6 +20,8 @@ impl Name {
             Name::PowerUp => "tracker_power_up",
             Name::Step => "tracker_step",
             Name::Run => "tracker_run",
+            Name::DoubledSize => "tracker_doubled_size",
+            Name::DoubledKind => "tracker_doubled_kind",
             Name::Double => "tracker_double",
         }
     }
@@ -57,6 +61,7 @@ impl Name {
 pub struct Call {
     pub name: Name,
     pub k: usize,
+    pub kind: usize,
     pub state: Vec<u8>,
     pub rows: Vec<u8>,
     /// The net bytes of a step, the outputs of a run, or the doubled image.
@@ -68,6 +73,7 @@ impl Call {
         Call {
             name,
             k: 0,
+            kind: 0,
             state: Vec::new(),
             rows: Vec::new(),
             filled: Vec::new(),
@@ -104,6 +110,17 @@ impl Call {
         }
     }
 
+    pub fn doubled_size() -> Call {
+        Call::empty(Name::DoubledSize)
+    }
+
+    pub fn doubled_kind(kind: usize) -> Call {
+        Call {
+            kind,
+            ..Call::empty(Name::DoubledKind)
+        }
+    }
+
     pub fn double(buffer: Vec<u8>) -> Call {
         Call {
             filled: buffer,
@@ -111,7 +128,8 @@ impl Call {
         }
     }
 
-    /// The call in words: its function, k and the lengths of its buffers.
+    /// The call in words: its function, k, the kind and the lengths of its
+    /// buffers.
     pub fn in_words(&self, image: &[u8]) -> String {
         let mut words = vec![
             String::from(self.name.function()),
@@ -119,6 +137,9 @@ impl Call {
         ];
         if self.name == Name::Run {
             words.push(format!("k {}", self.k));
+        }
+        if self.name == Name::DoubledKind {
+            words.push(format!("kind {}", self.kind));
         }
         if self.name.has_state() {
             words.push(format!("state of {}", self.state.len()));

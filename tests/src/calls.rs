@@ -1,4 +1,4 @@
-//! The five functions of the compiled library.
+//! The seven functions of the compiled library.
 //!
 //! They are held in a struct, so that a broken stand-in can take the place of
 //! any of them and the harness can be seen to notice it.
@@ -29,6 +29,12 @@ pub type Run = unsafe extern "C" fn(
     usize,
 ) -> u64;
 
+/// The type of `tracker_doubled_size`: the image.
+pub type DoubledSize = unsafe extern "C" fn(*const u8, usize) -> u64;
+
+/// The type of `tracker_doubled_kind`: the image and the kind.
+pub type DoubledKind = unsafe extern "C" fn(*const u8, usize, usize) -> u64;
+
 /// The type of `tracker_double`: the image and the buffer.
 pub type Double = unsafe extern "C" fn(*const u8, usize, *mut u8, usize) -> u64;
 
@@ -38,6 +44,8 @@ pub struct Calls {
     pub power_up: PowerUp,
     pub step: Step,
     pub run: Run,
+    pub doubled_size: DoubledSize,
+    pub doubled_kind: DoubledKind,
     pub double: Double,
 }
 
@@ -47,5 +55,7 @@ pub const LIBRARY: Calls = Calls {
     power_up: ffi::tracker_power_up,
     step: ffi::tracker_step,
     run: ffi::tracker_run,
+    doubled_size: ffi::tracker_doubled_size,
+    doubled_kind: ffi::tracker_doubled_kind,
     double: ffi::tracker_double,
 };

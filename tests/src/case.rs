@@ -2,14 +2,16 @@
 
 use crate::call::Call;
 use crate::calls::Calls;
-use crate::coding::{in_words, number_of};
-use crate::expecting::expect;
+use crate::coding::{in_words, number_of, refusal};
+use crate::drawing;
+use crate::expecting::{expect, figure};
 use crate::failure::Failure;
-use crate::lent::WrongByte;
-use crate::making::{make, Made};
+use crate::lent::{Lent, WrongByte};
+use crate::making::{self, make, Made};
 use crate::printing::{hex, hex_start};
 use crate::random::Random;
 use crate::tally::Tally;
+use reference::DoubledSize;
 
 pub struct Case<'a> {
     pub family: &'static str,
@@ -61,6 +63,27 @@ impl<'a> Case<'a> {
         Ok(made.answer)
     }
 
+    /// Asks the library for all figures of the doubled netlist, on one lent
+    /// image, and compares each answer with the reference's. Gives these
+    /// figures, or none where they are refused.
+    pub fn compare_figures(&mut self, image: &[u8]) -> Result<Option<DoubledSize>, Box<Failure>> {
+        let size = reference::doubled_size(image);
+        let mut lent = Lent::new("image", image, &mut self.random);
+        for call in drawing::figures(&mut self.random) {
+            self.start(image, &call);
+            let answer = making::figure(self.calls, &mut lent, &call);
+            self.end(&call, answer);
+            let expected = size.map_or_else(refusal, |size| figure(size, &call));
+            let byte = lent.wrong_byte(image);
+            if answer != expected || byte.is_some() {
+                return Err(self.failure(image, &call, answer, Some(expected), byte));
+            }
+            self.tally.compared += 1;
+            self.tally.note(image, &call, answer);
+        }
+        Ok(size.ok())
+    }
+
     /// Makes a call with the library alone. Guards, image and rows must be
     /// untouched, and after a refusal every other lent byte too. The call then
     /// holds the bytes that the library left.
@@ -99,15 +122,25 @@ impl<'a> Case<'a> {
     }
 
     fn make(&mut self, image: &[u8], call: &Call) -> Made {
+        self.start(image, call);
+        let made = make(self.calls, image, call, &mut self.random);
+        self.end(call, made.answer);
+        made
+    }
+
+    /// Counts a call that is to be made.
+    fn start(&mut self, image: &[u8], call: &Call) {
         self.made += 1;
         if self.print {
             self.print_call(image, call);
         }
-        let made = make(self.calls, image, call, &mut self.random);
+    }
+
+    /// Prints the answer of a call that was made.
+    fn end(&self, call: &Call, answer: u64) {
         if self.print {
-            println!("  answers {}", in_words(call.name, made.answer));
+            println!("  answers {}", in_words(call.name, answer));
         }
-        made
     }
 
     /// Prints a call, with its image unless that was printed just before.

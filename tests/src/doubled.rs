@@ -4,6 +4,7 @@ use crate::call::Call;
 use crate::case::Case;
 use crate::counts::Counts;
 use crate::failure::Failure;
+use crate::figures::{are_written, asked};
 use tracker::kinds::OUT;
 use tracker::{Image, Net};
 
@@ -13,14 +14,17 @@ pub struct Doubled {
     pub counts: Counts,
 }
 
-/// Has the library double a good image that does not draw 15. It must write an
-/// image that it accepts, with twice as many inputs, registers and outputs.
+/// Has the library double a good image that does not draw 15, into a buffer of
+/// the length that it gives. It must write an image that has the figures that it
+/// gave, that it accepts, and with twice as many inputs, registers and outputs.
 pub fn double(case: &mut Case, image: &[u8], counts: &Counts) -> Result<Doubled, Box<Failure>> {
-    let mut double = Call::double(case.random.bytes(counts.doubled_length()));
+    let size = asked(case, image)?;
+    let mut double = Call::double(case.random.bytes(size.bytes));
     let answer = case.ask(image, &mut double)?;
     if answer != 0 {
         return Err(case.broken(image, &double, answer, "a good image is doubled"));
     }
+    are_written(case, image, Some(size), &double)?;
     let checked = case.ask(&double.filled, &mut Call::check())?;
     let nets = match nets_of(&double.filled) {
         Some(nets) if checked == 0 => nets,

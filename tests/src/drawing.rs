@@ -5,6 +5,7 @@ use crate::call::{Call, Name};
 use crate::counts::Counts;
 use crate::cycles::{few, with_high_bits, wrapping, NOTED};
 use crate::random::Random;
+use std::iter;
 use tracker::MOST_CYCLES;
 
 /// A step on a random row, with right lengths. The buffer holds any bytes.
@@ -31,14 +32,32 @@ pub fn double(random: &mut Random, counts: &Counts) -> Call {
     Call::double(random.bytes(length))
 }
 
+/// The calls that ask for all figures of the doubled netlist: its nets, and those
+/// of each kind, of 9, which is none, and of a kind that becomes another one when
+/// its high bits are lost.
+pub fn figures(random: &mut Random) -> impl Iterator<Item = Call> {
+    let kinds = (0..=9).chain([large_kind(random)]);
+    iter::once(Call::doubled_size()).chain(kinds.map(Call::doubled_kind))
+}
+
+/// A number that is no kind, with one high bit.
+fn large_kind(random: &mut Random) -> usize {
+    random.below(9) | 1 << random.between(4, 63)
+}
+
 /// Any call with right lengths. The state is lent where the call takes one; for
 /// a power-up, any bytes are.
 pub fn any(random: &mut Random, counts: &Counts, state: &[u8]) -> Call {
-    match random.below(12) {
+    match random.below(14) {
         0 => Call::check(),
         1 => double(random, counts),
         2 | 3 => Call::power_up(random.bytes(counts.registers)),
         4..=7 => step(random, counts, state),
+        8 => Call::doubled_size(),
+        9 => {
+            let large = large_kind(random);
+            Call::doubled_kind(random.pick(&[0, 1, 2, 3, 4, 5, 6, 7, 8, 9, large]))
+        }
         _ => {
             let k = few(random);
             run(random, counts, k, state)

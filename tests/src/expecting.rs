@@ -2,6 +2,7 @@
 
 use crate::call::{Call, Name};
 use crate::coding;
+use reference::DoubledSize;
 
 /// The outcome that a call must have.
 pub struct Expected {
@@ -22,6 +23,9 @@ pub fn expect(image: &[u8], call: &Call) -> Expected {
         }
         Name::Run => reference::run(image, call.k, &mut state, &call.rows, &mut filled)
             .map(coding::first_flow),
+        Name::DoubledSize | Name::DoubledKind => {
+            reference::doubled_size(image).map(|size| figure(size, call))
+        }
         Name::Double => reference::double(image, &mut filled).map(|()| 0),
     };
     Expected {
@@ -29,4 +33,14 @@ pub fn expect(image: &[u8], call: &Call) -> Expected {
         state,
         filled,
     }
+}
+
+/// The figure of the doubled netlist that a call asks for: its nets, or those of
+/// one kind.
+pub fn figure(size: DoubledSize, call: &Call) -> u64 {
+    let nets = match call.name {
+        Name::DoubledKind => size.kinds.get(call.kind).copied().unwrap_or(0),
+        _ => size.nets,
+    };
+    nets as u64
 }

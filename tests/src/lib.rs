@@ -17,6 +17,7 @@ mod expecting;
 mod failure;
 mod families;
 pub mod faults;
+mod figures;
 mod kinds;
 mod lent;
 mod listed;

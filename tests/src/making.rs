@@ -27,6 +27,18 @@ pub fn make(calls: &Calls, image: &[u8], call: &Call, random: &mut Random) -> Ma
     made
 }
 
+/// Asks for a figure of the doubled netlist, which is lent the image alone.
+pub fn figure(calls: &Calls, image: &mut Lent, call: &Call) -> u64 {
+    let (pointer, length) = (image.pointer(), image.length());
+    // The pointer is to as many bytes as the length says.
+    unsafe {
+        match call.name {
+            Name::DoubledKind => (calls.doubled_kind)(pointer, length, call.kind),
+            _ => (calls.doubled_size)(pointer, length),
+        }
+    }
+}
+
 impl Made {
     /// Calls the function that the call names.
     fn ask(&mut self, calls: &Calls, call: &Call) -> u64 {
@@ -61,6 +73,7 @@ impl Made {
                     filled,
                     filled_length,
                 ),
+                Name::DoubledSize | Name::DoubledKind => figure(calls, &mut self.image, call),
                 Name::Double => (calls.double)(image, image_length, filled, filled_length),
             }
         }

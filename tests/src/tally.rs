@@ -17,7 +17,7 @@ pub struct Tally {
     /// Refusals 4 to 7, 11 and 13 by their place: first, last, between.
     pub places: [[u64; 3]; 18],
     /// Accepted calls, in the order of `Name`.
-    pub accepted: [u64; 5],
+    pub accepted: [u64; 7],
     /// Accepted steps and runs that answered with a flow.
     pub flows: u64,
 }
@@ -58,10 +58,11 @@ impl fmt::Display for Tally {
             }
             writeln!(f)?;
         }
-        let [check, power_up, step, run, double] = self.accepted;
+        let [check, power_up, step, run, size, kind, double] = self.accepted;
         writeln!(
             f,
-            "accepted: check {check}, power-up {power_up}, step {step}, run {run}, double {double}"
+            "accepted: check {check}, power-up {power_up}, step {step}, run {run}, \
+             doubled size {size}, doubled kind {kind}, double {double}"
         )?;
         write!(f, "steps and runs with a flow: {}", self.flows)
     }

@@ -25,6 +25,7 @@ pub fn run(case: &mut Case) -> Outcome {
     }
     let image = damaged(&mut case.random, &nets, &faults);
     case.compare(&image, &mut Call::check())?;
+    case.compare_figures(&image)?;
     let counts = Counts::of(&nets);
     let state = tracked(&mut case.random, counts.registers);
     let mut other = drawing::any(&mut case.random, &counts, &state);

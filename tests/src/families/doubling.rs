@@ -1,11 +1,13 @@
-//! Doubling with buffers of right and wrong lengths, on netlists of all sizes
-//! and above all on those whose doubled netlist has about 8,192 nets.
+//! The figures of the doubled netlist, and doubling with buffers of right and
+//! wrong lengths, on netlists of all sizes and above all on those whose doubled
+//! netlist has about 8,192 nets.
 
 use crate::bytes::wrong_length;
 use crate::call::Call;
 use crate::case::Case;
 use crate::counts::Counts;
 use crate::failure::Outcome;
+use crate::figures::are_written;
 use crate::netlists;
 use tracker::kinds::{AND, CONST, INPUT, OR, XOR};
 use tracker::{encode, image_length, Net, MOST_NETS};
@@ -14,6 +16,7 @@ pub fn run(case: &mut Case) -> Outcome {
     let nets = netlist(case);
     let counts = Counts::of(&nets);
     let image = encode(&nets);
+    let size = case.compare_figures(&image)?;
     let wrong = wrong_length(&mut case.random, counts.doubled_length());
     let telling = case.random.pick(&[
         0,
@@ -31,6 +34,7 @@ pub fn run(case: &mut Case) -> Outcome {
             return Err(case.broken(&image, &double, answer, property));
         }
         if answer == 0 {
+            are_written(case, &image, size, &double)?;
             case.compare(&double.filled, &mut Call::check())?;
         }
     }

@@ -1,5 +1,5 @@
 //! All good netlists of 1, 2 and 3 nets. Each is stepped from all states on all
-//! rows, run, and doubled.
+//! rows, run, and doubled; before that its figures are asked for.
 
 use crate::all::{all_bytes, chosen};
 use crate::call::Call;
@@ -7,6 +7,7 @@ use crate::case::Case;
 use crate::counts::Counts;
 use crate::drawing;
 use crate::failure::Outcome;
+use crate::figures::compare_doubling;
 use tracker::{encode, Net};
 
 /// The numbers of netlists of one, two and three nets: for each net as many
@@ -33,9 +34,7 @@ pub fn run(case: &mut Case) -> Outcome {
         let mut run = drawing::run(&mut case.random, &counts, 4, &state);
         case.compare(&image, &mut run)?;
     }
-    let mut double = drawing::double(&mut case.random, &counts);
-    case.compare(&image, &mut double)?;
-    Ok(())
+    compare_doubling(case, &image, &counts)
 }
 
 /// The netlist with this place among all of them.

@@ -19,6 +19,7 @@ pub fn run(case: &mut Case) -> Outcome {
     let nets = netlist(case);
     let counts = Counts::of(&nets);
     let image = encode(&nets);
+    case.compare_figures(&image)?;
     let state = tracked(&mut case.random, counts.registers);
     let mut run = drawing::run(&mut case.random, &counts, MOST_CYCLES, &state);
     case.compare(&image, &mut run)?;

@@ -1,5 +1,6 @@
-//! All good netlists of 4 nets. Each is checked, stepped, run and doubled. Where
-//! the first three nets are inputs, it is stepped on all rows.
+//! All good netlists of 4 nets. Each is checked, stepped, run and doubled, after
+//! its figures were asked for. Where the first three nets are inputs, it is
+//! stepped on all rows.
 
 use crate::all::{all_bytes, all_nets, chosen};
 use crate::bytes::tracked;
@@ -8,6 +9,7 @@ use crate::case::Case;
 use crate::counts::Counts;
 use crate::drawing;
 use crate::failure::Outcome;
+use crate::figures::compare_doubling;
 use tracker::kinds::INPUT;
 use tracker::{encode, Net};
 
@@ -32,8 +34,7 @@ fn calls(case: &mut Case, nets: &[Net]) -> Outcome {
     case.compare(&image, &mut step)?;
     let mut run = drawing::run(&mut case.random, &counts, 3, &step.state);
     case.compare(&image, &mut run)?;
-    let mut double = drawing::double(&mut case.random, &counts);
-    case.compare(&image, &mut double)?;
+    compare_doubling(case, &image, &counts)?;
     if nets[..3].iter().all(|net| net.kind == INPUT) {
         for row in all_bytes(counts.inputs) {
             let buffer = case.random.bytes(counts.nets);

@@ -1,4 +1,4 @@
-//! Small good netlists: all five calls with right lengths.
+//! Small good netlists: all calls with right lengths.
 
 use crate::bytes::tracked;
 use crate::call::Call;
@@ -7,6 +7,7 @@ use crate::counts::Counts;
 use crate::cycles::few;
 use crate::drawing;
 use crate::failure::Outcome;
+use crate::figures::compare_doubling;
 use crate::netlists;
 use tracker::{encode, Net};
 
@@ -17,7 +18,7 @@ pub fn run(case: &mut Case) -> Outcome {
 }
 
 /// Checks a netlist, powers it up, steps and runs from there, steps and runs
-/// from any state, and doubles it.
+/// from any state, asks for its figures, and doubles it.
 pub fn calls(case: &mut Case, nets: &[Net], k: usize) -> Outcome {
     let counts = Counts::of(nets);
     let image = encode(nets);
@@ -27,9 +28,7 @@ pub fn calls(case: &mut Case, nets: &[Net], k: usize) -> Outcome {
     cycles(case, &image, &counts, k, powered.state)?;
     let state = tracked(&mut case.random, counts.registers);
     cycles(case, &image, &counts, k, state)?;
-    let mut double = drawing::double(&mut case.random, &counts);
-    case.compare(&image, &mut double)?;
-    Ok(())
+    compare_doubling(case, &image, &counts)
 }
 
 /// Some steps and then a run, with one state.

@@ -1,5 +1,5 @@
-//! Large good netlists, often at the limit of 8,192 nets: all five calls with
-//! right lengths.
+//! Large good netlists, often at the limit of 8,192 nets: all calls with right
+//! lengths.
 
 use super::good;
 use crate::case::Case;

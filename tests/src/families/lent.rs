@@ -37,6 +37,8 @@ fn right_call(case: &mut Case, counts: &Counts, name: Name) -> Call {
             let k = few(random);
             drawing::run(random, counts, k, &state)
         }
+        Name::DoubledSize => Call::doubled_size(),
+        Name::DoubledKind => Call::doubled_kind(random.below(10)),
         Name::Double => drawing::double(random, counts),
     }
 }

@@ -1,5 +1,6 @@
 //! One net of a small netlist takes every kind, and its operands take every
-//! mix of some telling values. The image is checked each time.
+//! mix of some telling values. Each time the image is checked, and its figures are
+//! asked for.
 
 use crate::all::all_nets;
 use crate::call::Call;
@@ -45,6 +46,8 @@ fn check(case: &mut Case, nets: &[Net]) -> Outcome {
             _ => sizes.outputs += 1,
         }
     }
-    case.compare(&encode_with(sizes, nets), &mut Call::check())?;
+    let image = encode_with(sizes, nets);
+    case.compare(&image, &mut Call::check())?;
+    case.compare_figures(&image)?;
     Ok(())
 }

@@ -117,10 +117,16 @@ pub const TURNS_ALL_BACK: Calls = Calls {
     power_up: no_power_up,
     step: no_step,
     run: no_run,
+    doubled_size: no_check,
+    doubled_kind: no_kind,
     double: no_power_up,
 };
 
 extern "C" fn no_check(_: *const u8, _: usize) -> u64 {
+    3 * ONE
+}
+
+extern "C" fn no_kind(_: *const u8, _: usize, _: usize) -> u64 {
     3 * ONE
 }
 

@@ -4,6 +4,7 @@
 mod answers;
 mod cycles;
 mod doubling;
+mod figures;
 mod lent_bytes;
 mod order;
 mod parts;

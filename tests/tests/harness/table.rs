@@ -1,7 +1,7 @@
 //! All broken stand-ins, with the families that have to catch them and what
 //! their reports have to show.
 
-use crate::{answers, cycles, doubling, lent_bytes, order, rules};
+use crate::{answers, cycles, doubling, figures, lent_bytes, order, rules};
 use tests::{Calls, Failure, Spot};
 
 pub struct StandIn {
@@ -76,7 +76,7 @@ fn image(failure: &Failure) -> bool {
 }
 
 #[rustfmt::skip]
-pub const STAND_INS: [StandIn; 28] = [
+pub const STAND_INS: [StandIn; 35] = [
     stand_in("accepts wrong counts", answers::ACCEPTS_WRONG_COUNTS,
         &["operands", "damaged", "noise", "lists"], answer),
     stand_in("answers with the next net", answers::NEXT_PLACE,
@@ -132,4 +132,18 @@ pub const STAND_INS: [StandIn; 28] = [
         &["exhaustive", "good", "lists", "doubling", "pairing", "two_runs"], lent_byte),
     stand_in("doubles into a longer buffer", doubling::TAKES_LONGER,
         &["lent", "lists", "doubling"], answer),
+    stand_in("gives the source's nets for the doubled", figures::SOURCE_NETS,
+        &["exhaustive", "operands", "good", "lists", "doubling", "pairing"], answer),
+    stand_in("counts the source's kinds for the doubled", figures::SOURCE_KINDS,
+        &["exhaustive", "operands", "good", "lists", "doubling", "pairing"], answer),
+    stand_in("sizes more than 8,192 nets", figures::NO_LIMIT,
+        &["large", "lists", "doubling"], answer),
+    stand_in("tries the doubled nets before the counts", figures::LIMIT_FIRST,
+        &["damaged"], answer),
+    stand_in("counts one MUX for two", figures::ONE_MUX,
+        &["good", "lists", "doubling", "pairing", "two_runs"], answer),
+    stand_in("takes 8 bits of a kind", figures::NARROW_KIND,
+        &["exhaustive", "operands", "good", "lists", "doubling"], answer),
+    stand_in("writes into the image while it counts", figures::WRITES_THE_IMAGE,
+        &["exhaustive", "operands", "good", "damaged", "noise", "pairing"], image),
 ];
