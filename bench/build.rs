@@ -9,11 +9,19 @@ use std::process::{self, Command};
 const SOURCE: &str = "c/lists.c";
 
 /// The calls of the library.
-const CALLS: [&str; 5] = ["check", "power_up", "step", "run", "double"];
+const CALLS: [&str; 7] = [
+    "check",
+    "power_up",
+    "step",
+    "run",
+    "doubled_size",
+    "doubled_kind",
+    "double",
+];
 
 fn main() {
     println!("cargo:rerun-if-changed=build.rs");
-    println!("cargo:rustc-check-cfg=cfg(c_peer, other)");
+    println!("cargo:rustc-check-cfg=cfg(c_peer, other, other_size)");
     let out = env::var_os("OUT_DIR").expect("cargo sets OUT_DIR");
     compile_peer(Path::new(&out));
     rename_other(Path::new(&out));
@@ -52,10 +60,21 @@ fn rename_other(out: &Path) {
     for call in CALLS {
         rename.arg(format!("--redefine-sym=tracker_{call}=other_{call}"));
     }
-    assert_succeeds(rename.arg(archive).arg(out.join("libother.a")));
+    assert_succeeds(rename.arg(&archive).arg(out.join("libother.a")));
+    if has_call(&archive, "tracker_doubled_size") {
+        println!("cargo:rustc-cfg=other_size");
+    }
     println!("cargo:rustc-link-search=native={}", out.display());
     println!("cargo:rustc-link-lib=static=other");
     println!("cargo:rustc-cfg=other");
+}
+
+/// Whether an archive has a call.
+fn has_call(archive: &Path, call: &str) -> bool {
+    let symbols = Command::new("nm").arg(archive).output();
+    let symbols = symbols.expect("nm lists an archive's symbols").stdout;
+    let text = String::from_utf8_lossy(&symbols);
+    text.split_whitespace().any(|symbol| symbol == call)
 }
 
 /// The first line of what a compiler says of its version, if it can be started.

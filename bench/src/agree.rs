@@ -5,6 +5,8 @@ use crate::generate::image;
 use crate::mix::MIXES;
 use crate::peer::Peer;
 use crate::peers::PEERS;
+use crate::sizing::{figures, Figures};
+use tracker::ffi;
 
 /// How many small netlists are tried.
 const SMALL: usize = 600;
@@ -38,4 +40,35 @@ pub fn assert_agree(bytes: &Bytes, k: usize, peers: &[Peer]) {
         assert!(peer_state == state, "state of {}", peer.name);
         assert!(peer_outputs == outputs, "outputs of {}", peer.name);
     }
+}
+
+/// Compares the peer of the doubled size with the library, on netlists of which
+/// some are too large to be doubled, and on images that are cut short.
+pub fn assert_sizes_agree() {
+    for seed in 0..SMALL {
+        let mix = MIXES[seed % MIXES.len()];
+        let image = image(mix, 1 + seed * 5, seed as u64, true);
+        let cut = &image[..image.len() - seed % 9];
+        assert_size_agrees(&image);
+        assert_size_agrees(cut);
+    }
+}
+
+/// Compares the figures of the doubled netlist that the library and the peer give.
+pub fn assert_size_agrees(image: &[u8]) {
+    assert_eq!(figures(image), library_figures(image), "doubled size");
+}
+
+/// The figures that the library gives, or its refusal.
+fn library_figures(image: &[u8]) -> Result<Figures, u64> {
+    let number = |answer: u64| match answer >> 32 {
+        0 => Ok(answer as usize),
+        _ => Err(answer),
+    };
+    let nets = number(ffi::doubled_size(image))?;
+    let mut kinds = [0; 9];
+    for (kind, nets) in kinds.iter_mut().enumerate() {
+        *nets = number(ffi::doubled_kind(image, kind))?;
+    }
+    Ok(Figures { nets, kinds })
 }

@@ -8,19 +8,29 @@ use tracker::kinds::{AND, CONST, INPUT, MUX, NOT, OUT, REG, XOR};
 use tracker::{sizes, Image, Net, Sizes, MOST_CYCLES, MOST_NETS};
 
 /// The answer of a refusal.
-fn refusal(number: u64, place: usize) -> u64 {
+pub fn refusal(number: u64, place: usize) -> u64 {
     (number << 32) + place as u64
 }
 
+/// How many nets there are of each kind, and behind them of what is no kind.
+pub type KindCounts = [usize; NO_KIND + 1];
+
 /// Checks an image: its sizes, or one of the refusals 1 to 8.
 pub fn check(image: &[u8]) -> Result<Sizes, u64> {
+    count(image).map(|(sizes, _)| sizes)
+}
+
+/// Checks an image: its sizes and its nets of each kind, or one of the refusals 1
+/// to 8.
+#[inline(always)]
+pub fn count(image: &[u8]) -> Result<(Sizes, KindCounts), u64> {
     let sizes = sizes(image).ok_or(refusal(1, 0))?;
     if sizes.nets == 0 || sizes.nets > MOST_NETS {
         return Err(refusal(2, 0));
     }
     let image = Image::of(image).ok_or(refusal(3, 0))?;
     let mut limits = Limits::new(sizes.nets);
-    let mut counts = [0usize; NO_KIND + 1];
+    let mut counts: KindCounts = [0; NO_KIND + 1];
     for (i, net) in image.nets().enumerate() {
         let kind = usize::from(net.kind).min(NO_KIND);
         if !limits.allow(kind, net) {
@@ -33,7 +43,7 @@ pub fn check(image: &[u8]) -> Result<Sizes, u64> {
     if wanted != [counts[1], counts[2], counts[8]] {
         return Err(refusal(8, 0));
     }
-    Ok(sizes)
+    Ok((sizes, counts))
 }
 
 /// The number of the refusal 4 to 7 that net i of n draws, which is refused.

@@ -18,6 +18,9 @@ type Step = fn(&[u8], &mut [u8], &[u8], &mut [u8]) -> u64;
 /// A run: the image, k, the state, the rows and the outputs.
 type Run = fn(&[u8], usize, &mut [u8], &[u8], &mut [u8]) -> u64;
 
+/// The nets of the doubled netlist: the image.
+type DoubledSize = fn(&[u8]) -> u64;
+
 /// A doubling: the image and the buffer.
 type Double = fn(&[u8], &mut [u8]) -> u64;
 
@@ -29,6 +32,8 @@ pub struct Library {
     pub power_up: PowerUp,
     pub step: Step,
     pub run: Run,
+    /// None where this build has no such call.
+    pub doubled_size: Option<DoubledSize>,
     pub double: Double,
 }
 
@@ -40,6 +45,7 @@ pub const LIBRARIES: &[Library] = &[
         power_up: ffi::power_up,
         step: ffi::step,
         run: ffi::run,
+        doubled_size: Some(ffi::doubled_size),
         double: ffi::double,
     },
     #[cfg(other)]
@@ -49,6 +55,7 @@ pub const LIBRARIES: &[Library] = &[
         power_up: other::power_up,
         step: other::step,
         run: other::run,
+        doubled_size: other::DOUBLED_SIZE,
         double: other::double,
     },
 ];

@@ -1,5 +1,5 @@
-//! Checking and doubling at four sizes, to see whether they are linear, for the
-//! library and the other build.
+//! Checking, the doubled size and doubling at four sizes, to see whether they are
+//! linear, for the library and the other build; the doubled size for its peer too.
 
 use std::hint::black_box;
 use std::time::Instant;
@@ -9,6 +9,7 @@ use crate::generate::image;
 use crate::libraries::{Library, LIBRARIES};
 use crate::mix::Mix;
 use crate::rounds::low_and_median;
+use crate::sizing;
 use tracker::doubled_size;
 
 /// The source nets. The doubled netlist has to stay within 8,192 nets.
@@ -32,6 +33,12 @@ struct Size {
     buffer: Vec<u8>,
 }
 
+/// A call that is timed, and who makes it: a build of the library, or the peer.
+struct Timed {
+    name: &'static str,
+    call: Box<dyn Fn(&mut Size) -> u64>,
+}
+
 /// The bytes of a netlist of n nets.
 fn size(nets: usize) -> Size {
     let image = image(Mix::Equal, nets, SEED, true);
@@ -48,30 +55,57 @@ fn size(nets: usize) -> Size {
 /// Times checking.
 pub fn print_checking() {
     println!("\ncheck, equal, ns a net: the lowest of {ROUNDS} rounds of {CALLS} calls, in brackets the median");
-    let call = |library: &Library, size: &mut Size| (library.check)(black_box(&size.image));
-    print_times(CHECKED, call, |size| format!("{} nets", size.nets));
+    let timed = LIBRARIES.iter().map(|library| Timed {
+        name: library.name,
+        call: Box::new(|size| (library.check)(black_box(&size.image))),
+    });
+    print_times(CHECKED, timed.collect(), |size| {
+        format!("{} nets", size.nets)
+    });
+}
+
+/// Times the doubled size. The figures are for each source net.
+pub fn print_sizing() {
+    println!("\ndoubled_size, equal, the same for each source net");
+    let mut timed: Vec<Timed> = LIBRARIES.iter().filter_map(sizing_by).collect();
+    timed.push(Timed {
+        name: sizing::NAME,
+        call: Box::new(|size| sizing::answer(&size.image)),
+    });
+    print_times(DOUBLED, timed, source_and_doubled);
+}
+
+/// The doubled size of a build that has it.
+fn sizing_by(library: &'static Library) -> Option<Timed> {
+    let call = library.doubled_size?;
+    Some(Timed {
+        name: library.name,
+        call: Box::new(move |size| call(black_box(&size.image))),
+    })
 }
 
 /// Times doubling. The figures are for each source net.
 pub fn print_doubling() {
     println!("\ndouble, equal, the same for each source net");
-    let call = |library: &Library, size: &mut Size| {
-        (library.double)(black_box(&size.image), black_box(&mut size.buffer))
-    };
-    print_times(DOUBLED, call, |size| {
-        format!("{} nets, {} doubled", size.nets, size.doubled)
+    let timed = LIBRARIES.iter().map(|library| Timed {
+        name: library.name,
+        call: Box::new(|size| {
+            (library.double)(black_box(&size.image), black_box(&mut size.buffer))
+        }),
     });
+    print_times(DOUBLED, timed.collect(), source_and_doubled);
 }
 
-/// A row for each size, with the lowest and the median time of each build.
-fn print_times(
-    sizes: [usize; 4],
-    call: impl Fn(&Library, &mut Size) -> u64,
-    title: impl Fn(&Size) -> String,
-) {
+/// A size that is doubled, in print.
+fn source_and_doubled(size: &Size) -> String {
+    format!("{} nets, {} doubled", size.nets, size.doubled)
+}
+
+/// A row for each size, with the lowest and the median time of each call.
+fn print_times(sizes: [usize; 4], timed: Vec<Timed>, title: impl Fn(&Size) -> String) {
     let mut sizes = sizes.map(size);
-    let times = times(&mut sizes, call);
-    let mut table = vec![row("", LIBRARIES.iter().map(|library| library.name))];
+    let times = times(&mut sizes, &timed);
+    let mut table = vec![row("", timed.iter().map(|timed| timed.name))];
     for (size, times) in sizes.iter().zip(times) {
         let figures = times.iter().map(|list| low_and_median(list));
         table.push(row(&title(size), figures));
@@ -79,14 +113,14 @@ fn print_times(
     print(&table);
 }
 
-/// The nanoseconds of a call for each net, for each size, build and round.
-fn times(sizes: &mut [Size; 4], call: impl Fn(&Library, &mut Size) -> u64) -> [Vec<Vec<f64>>; 4] {
+/// The nanoseconds of a call for each net, for each size, call and round.
+fn times(sizes: &mut [Size; 4], timed: &[Timed]) -> [Vec<Vec<f64>>; 4] {
     let mut times: [_; 4] = Default::default();
-    times.fill(vec![Vec::new(); LIBRARIES.len()]);
+    times.fill(vec![Vec::new(); timed.len()]);
     for _ in 0..ROUNDS {
         for (size, times) in sizes.iter_mut().zip(&mut times) {
-            for (library, times) in LIBRARIES.iter().zip(times) {
-                times.push(nanoseconds(size, |size| call(library, size)));
+            for (timed, times) in timed.iter().zip(times) {
+                times.push(nanoseconds(size, &timed.call));
             }
         }
     }
@@ -97,7 +131,7 @@ fn times(sizes: &mut [Size; 4], call: impl Fn(&Library, &mut Size) -> u64) -> [V
 fn nanoseconds(size: &mut Size, call: impl Fn(&mut Size) -> u64) -> f64 {
     let start = Instant::now();
     for _ in 0..CALLS {
-        assert_eq!(black_box(call(size)), 0);
+        assert!(black_box(call(size)) >> 32 == 0, "a call was turned back");
     }
     let time = start.elapsed().as_secs_f64();
     time * 1e9 / (size.nets * CALLS) as f64

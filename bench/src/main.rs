@@ -3,9 +3,9 @@
 //! Without arguments: all tables of the library and its peers. Each can be printed
 //! alone: `run` (times), `counts` (instructions and mispredicted branches of a
 //! run), `once` (runs of one cycle), `calls` (instructions of each call), `linear`
-//! (check and double). `forms`: times and counts of the forms of src/forms.
-//! `count ..`: work for valgrind to count. `netlist MIX NETS SEED CYCLES FOLDER`
-//! and `listing MIX NETS SEED ROWS FOLDER`: files for the hardware tools.
+//! (check, doubled_size and double). `forms`: times and counts of the forms of
+//! src/forms. `count ..`: work for valgrind to count. `netlist MIX NETS SEED CYCLES
+//! FOLDER` and `listing MIX NETS SEED ROWS FOLDER`: files for the hardware tools.
 
 mod accepted;
 mod agree;
@@ -38,13 +38,14 @@ mod random;
 mod real;
 mod rounds;
 mod running;
+mod sizing;
 mod verilog;
 
 use std::env;
 use std::path::Path;
 use std::process;
 
-use agree::assert_agree_on_small;
+use agree::{assert_agree_on_small, assert_sizes_agree};
 use forms::FORMS;
 use mix::Mix;
 use peers::PEERS;
@@ -80,6 +81,7 @@ fn main() {
 fn print_tables(tables: &[&str]) {
     let all = peers::all();
     assert_agree_on_small(&all);
+    assert_sizes_agree();
     peers::print_legend();
     for table in tables {
         match *table {
@@ -92,6 +94,7 @@ fn print_tables(tables: &[&str]) {
             "calls" => calls::print_counts(),
             _ => {
                 linear::print_checking();
+                linear::print_sizing();
                 linear::print_doubling();
             }
         }

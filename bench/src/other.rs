@@ -30,6 +30,8 @@ extern "C" {
         outputs: *mut u8,
         outputs_length: usize,
     ) -> u64;
+    #[cfg(other_size)]
+    fn other_doubled_size(image: *const u8, image_length: usize) -> u64;
     fn other_double(
         image: *const u8,
         image_length: usize,
@@ -79,6 +81,17 @@ pub fn run(image: &[u8], k: usize, state: &mut [u8], rows: &[u8], outputs: &mut 
             outputs.len(),
         )
     }
+}
+
+/// The doubled size, where the other build has it.
+#[cfg(other_size)]
+pub const DOUBLED_SIZE: Option<fn(&[u8]) -> u64> = Some(doubled_size);
+#[cfg(not(other_size))]
+pub const DOUBLED_SIZE: Option<fn(&[u8]) -> u64> = None;
+
+#[cfg(other_size)]
+fn doubled_size(image: &[u8]) -> u64 {
+    unsafe { other_doubled_size(image.as_ptr(), image.len()) }
 }
 
 pub fn double(image: &[u8], buffer: &mut [u8]) -> u64 {
