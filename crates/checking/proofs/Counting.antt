@@ -1,6 +1,6 @@
 -- The nets of each kind, counted: one more net raises one of the nine counts.
 use Prim.Native.Nat.{ℕ, zero, suc, _+_, _≤_, _<_}
-use mathlib.Core.Path.{_≡_, refl, sym, ap, _∙_}
+use mathlib.Core.Path.{_≡_, refl, sym, _∙_}
 use mathlib.Core.List.{List, [], _∷_, _++_}
 use mathlib.Core.Bool.{Bool, true, false, cond}
 use native.Mathlib.Decide.{decLt}
@@ -40,6 +40,14 @@ count-few k xs =
       | no h ↦ rw (List·getD-eq-default (kindCounts xs) 0 {n = k} (rw (counts-length xs) (omega arith))) (omega arith)
     ]
 
+-- what stands at each place when place k is raised
+pub raised-place : (counts : List ℕ) (k j : ℕ) → k < length counts → getD (raised counts k) j 0 ≡ getD counts j 0 + cond (eqb k j) 1 0
+raised-place counts k j h = by (eqb k j) refl
+  where
+    by : (b : Bool) → eqb k j ≡ b → getD (raised counts k) j 0 ≡ getD counts j 0 + cond b 1 0
+    by true e = rw (← eqb-true k j e) (getD-set-same counts k (getD counts k 0 + 1) 0 h)
+    by false e = getD-set-other counts k j (getD counts k 0 + 1) 0 (λ d. eqb-false k j e (sym d)) ∙ omega arith
+
 -- the nets of one kind, with one more net
 count-more : (k : ℕ) (xs : List Net) (x : Net) → count k (xs ++ (x ∷ [])) ≡ count k xs + cond (eqb (x .kind) k) 1 0
 unfolding count
@@ -49,14 +57,7 @@ count-more k (y ∷ xs) x = omega (arith, count-more k xs x)
 -- with one more net, the place of its kind is raised
 module _ (xs : List Net) (x : Net) (h : x .kind < 9) where
   raised-at : (k : ℕ) → k < 9 → getD (raised (kindCounts xs) (x .kind)) k 0 ≡ count k (xs ++ (x ∷ []))
-  raised-at k l = rw (count-more k xs x) (by (eqb (x .kind) k) refl)
-    where
-      by : (b : Bool) → eqb (x .kind) k ≡ b → getD (raised (kindCounts xs) (x .kind)) k 0 ≡ count k xs + cond b 1 0
-      by true e =
-          rw (← eqb-true (x .kind) k e)
-          (getD-set-same (kindCounts xs) (x .kind) _ 0 (rw (counts-length xs) h) ∙ ap (λ (m : ℕ). m + 1) (count-at (x .kind) xs h))
-      by false e =
-          getD-set-other (kindCounts xs) (x .kind) k _ 0 (λ d. eqb-false (x .kind) k e (sym d)) ∙ count-at k xs l ∙ omega arith
+  raised-at k l = raised-place (kindCounts xs) (x .kind) k (rw (counts-length xs) h) ∙ rw (count-at k xs l, count-more k xs x)
 
   pub counts-raised : raised (kindCounts xs) (x .kind) ≡ kindCounts (xs ++ (x ∷ []))
   counts-raised =

@@ -15,7 +15,7 @@ use Rattle.figures.specs.Figures.{sizeRefusal}
 use Rattle.figures.proofs.Refusing.{size-refused, size-accepted, size-none, size-given}
 use Rattle.doubling.specs.Doubling.{doubleRefusal, doubleOf}
 use Rattle.doubling.proofs.Checks.{doubled-sizes, doubled-nets, doubled-image-length, double-none, double-accepted, double-refused}
-use Rattle.claims.specs.Figures.{FiguresWritten, TurnsBackAlike, NoFigures}
+use Rattle.claims.specs.Figures.{FiguresWritten, TurnsBackAlike, NoneBesideRefusal}
 
 -- what doubling gives is its chain of refusals, since 17 is never given
 doubling-gives : (s buf : List ℕ) → doubleOf s buf .refusal ≡ doubleRefusal s buf
@@ -33,7 +33,7 @@ turns-back-alike s buf =
     doubling-gives s buf ∙ chain s buf
     ∙ either-way (sizeRefusal s) (λ e. rw (size-accepted s e, e)) (λ r e. rw (size-refused s r e, e))
 
-pub no-figures : NoFigures
+pub no-figures : NoneBesideRefusal
 no-figures s r h = size-refused s r (sym (size-given s) ∙ h)
 
 pub figures-written : FiguresWritten

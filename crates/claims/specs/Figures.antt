@@ -10,8 +10,8 @@ use Rattle.refusals.specs.Refusals.{_then_, badLength}
 use Rattle.figures.specs.Figures.{Figures, doubledSizeOf}
 use Rattle.doubling.specs.Doubling.{doubleOf}
 
--- the figures f are those of the image t: its N, its length, and for each of the nine kinds the number of its nets of that kind
-pub record FiguresOf (f : Figures) (t : List ℕ) : Type 0 where
+-- the figures f are what is read from the image t: its N, its length, and for each of the nine kinds the number of its nets of that kind
+pub record FiguresRead (f : Figures) (t : List ℕ) : Type 0 where
   pub accepted : f .refusal ≡ none
   pub nets : f .nets ≡ sizesOf t .nets
   pub bytes : f .bytes ≡ length t
@@ -20,7 +20,7 @@ pub record FiguresOf (f : Figures) (t : List ℕ) : Type 0 where
 
 -- "The figures equal what doubling then writes"; proved as `figures-written`
 abbrev pub FiguresWritten : Type 0
-FiguresWritten = (s buf : List ℕ) → doubleOf s buf .refusal ≡ none → FiguresOf (doubledSizeOf s) (doubleOf s buf .buffer)
+FiguresWritten = (s buf : List ℕ) → doubleOf s buf .refusal ≡ none → FiguresRead (doubledSizeOf s) (doubleOf s buf .buffer)
 
 -- "it turns back as doubling does, 1 to 8 and 15": doubling gives the same refusal, and where there is none, 16 for a buffer that is not as long as the figures say;
 -- proved as `turns-back-alike`
@@ -28,6 +28,6 @@ abbrev pub TurnsBackAlike : Type 0
 TurnsBackAlike = (s buf : List ℕ) → doubleOf s buf .refusal ≡ (doubledSizeOf s .refusal then badLength 16 (doubledSizeOf s .bytes) buf)
 
 -- beside a refusal all figures are 0; proved as `no-figures`
-abbrev pub NoFigures : Type 0
-NoFigures =
+abbrev pub NoneBesideRefusal : Type 0
+NoneBesideRefusal =
     (s : List ℕ) (r : Refusal) → doubledSizeOf s .refusal ≡ some r → doubledSizeOf s ≡ record { refusal = some r; nets = 0; bytes = 0; kinds = replicate 9 0 }

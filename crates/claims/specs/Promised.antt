@@ -14,7 +14,7 @@ use Rattle.claims.specs.Verdicts.{Verdicts, FirstFlows}
 use Rattle.claims.specs.Steps.{StepIsCycle, RunIsSteps}
 use Rattle.claims.specs.History.{Histories}
 use Rattle.claims.specs.DoubledImage.{DoubledChecks, DoublingWrites, DoubledReadsAll, DoubledPlaced, DoubledUnseen}
-use Rattle.claims.specs.Figures.{FiguresWritten, TurnsBackAlike, NoFigures}
+use Rattle.claims.specs.Figures.{FiguresWritten, TurnsBackAlike, NoneBesideRefusal}
 use Rattle.claims.specs.Bound.{SizeBound, BoundReached}
 use Rattle.claims.specs.Groups.{Groups}
 use Rattle.claims.specs.Pairing.{Demand2}
@@ -83,7 +83,7 @@ pub record Promised : Type 0 where
   -- They are refused as doubling is, and a buffer of as many bytes as they say is what doubling asks for.
   pub turns-back-alike : TurnsBackAlike
   -- Beside a refusal all figures are 0.
-  pub no-figures : NoFigures
+  pub no-figures : NoneBesideRefusal
   -- No netlist of N nets doubles to more than 8 × N − 6 nets.
   pub size-bound : SizeBound
   -- For every N from 1 to 8,192 a netlist that passes checking doubles to that many, or would if 15 did not stop it.

@@ -29,7 +29,7 @@ use Rattle.codes.specs.Codes.{outcomeCode, verdictCode, firstFlowCode, a
 use Rattle.codes.specs.Readings.{outcomeRead, stepRead, runRead}
 use Rattle.codes.specs.Says.{NumbersSay}
 use Rattle.codes.proofs.Given.{tabled}
-use Rattle.codes.proofs.Small.{Answered, gave, turned-back, step-answered, run-answered, naming-small, among-small}
+use Rattle.codes.proofs.Small.{Answered, gave, turned-back, step-answered, run-answered, few-nets, naming-small, among-small}
 use Rattle.codes.proofs.Readings.{reads}
 
 -- REFUSED: the answer of which the number is 2^32 or more
@@ -110,18 +110,26 @@ run-is-clear s st k rows outputs l m =
     let read : runRead n ≡ done (record { cycle = n / 65536; verdict = clear }) = rw (lt-ltb n (2 ^ 32) l, m) in
     clear-answer s st k rows outputs (record { cycle = n / 65536; verdict = clear }) (sym (reads .run s st k rows outputs) ∙ read) refl
 
--- THE FIGURES, where they are not refused
+-- THE FIGURES of the doubled netlist
 module _ (s buf : List ℕ) where
+  is-done : outcomeCode (doubleOf s buf .refusal) ≡ 0 → doubleOf s buf .refusal ≡ none
+  is-done h = sym (reads .double s buf) ∙ ap outcomeRead h
+
   size-is : (o : Option Refusal) → doubledSizeOf s .refusal ≡ o → sizeCode (doubledSizeOf s) < 2 ^ 32 → length buf ≡ 8 + 7 * sizeCode (doubledSizeOf s)
-      → (doubleOf s buf .refusal ≡ none) × (sizesOf (doubleOf s buf .buffer) .nets ≡ sizeCode (doubledSizeOf s))
+      → (outcomeCode (doubleOf s buf .refusal) ≡ 0) × (sizesOf (doubleOf s buf .buffer) .nets ≡ sizeCode (doubledSizeOf s))
   size-is none e h l =
       let a = size-accepted s (sym (size-given s) ∙ e) in
       let fits : length buf ≡ doubledSizeOf s .bytes = rw e at l ∙ rw a in
       let w : doubleOf s buf .refusal ≡ none = promised .turns-back-alike s buf ∙ rw e (length-none 16 _ buf .1 fits) in
-      (w, rw e (sym (promised .figures-written s buf w .nets)))
+      (ap outcomeCode w, rw e (sym (promised .figures-written s buf w .nets)))
   size-is (some r) e h l =
       let t = tabled s table.doubled-size r e in
       absurd (let below = rw e at h in omega (arith, t .some-number))
+
+  size-turned : (k : ℕ) (o : Option Refusal) → doubledSizeOf s .refusal ≡ o → 2 ^ 32 ≤ sizeCode (doubledSizeOf s)
+      → (outcomeCode (doubleOf s buf .refusal) ≡ sizeCode (doubledSizeOf s)) × (kindCode (doubledSizeOf s) k ≡ sizeCode (doubledSizeOf s))
+  size-turned k none e h = absurd (let above = rw e at h in omega (arith, few-nets s (sym (size-given s) ∙ e)))
+  size-turned k (some r) e h = (rw (promised .turns-back-alike s buf, e), rw e)
 
   kind-is : (k : ℕ) → k ≤ 8 → doubleOf s buf .refusal ≡ none → kindCode (doubledSizeOf s) k ≡ count k (netsOf (doubleOf s buf .buffer))
   kind-is k l w = let f = promised .figures-written s buf w in rw (f .accepted) (f .kinds k l)
@@ -147,8 +155,9 @@ says =
           promised .unchanged .run s st k rows outputs (t .refusal) (t .is);
       double-kept = λ s buf h. let t = turned-outcome _ h in promised .unchanged .double s buf (t .refusal) (t .is);
       doubled-size = λ s buf h l. size-is s buf _ refl h l;
-      doubled-kind = λ s buf. kind-is s buf;
-      doubled-no-kind = λ s buf. no-kind s buf;
+      doubled-turned = λ s buf k. size-turned s buf k _ refl;
+      doubled-kind = λ s buf k l h. kind-is s buf k l (is-done s buf h);
+      doubled-no-kind = λ s buf k l h. no-kind s buf k l (is-done s buf h);
       step-clear = λ s st row nets h. step-unmarked s st row nets (sym (reads .step s st row nets) ∙ ap stepRead h);
       step-flow = λ s st row nets h. step-marked s st row nets _ (sym (reads .step s st row nets) ∙ flow-read _ h);
       check-refused = λ s n p h k e. promised .refusals s check (record { number = n; place = p }) .0 (sym (reads .check s) ∙ ap outcomeRead e ∙ refusal-read n p h k);

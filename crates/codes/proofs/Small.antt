@@ -20,7 +20,7 @@ use Rattle.claims.specs.Refused as table
 use Rattle.claims.specs.Verdicts as judged
 use Rattle.claims.specs.Verdicts.{Judged, lowest}
 use Rattle.claims.proofs.Promised.{promised}
-use Rattle.codes.specs.Codes.{refusalCode, outcomeCode, verdictCode, firstFlowCode, figureIn, answerCode}
+use Rattle.codes.specs.Codes.{refusalCode, outcomeCode, verdictCode, firstFlowCode, figureAnswer, answerCode}
 use Rattle.codes.proofs.Given.{Tabled, tabled, Given, no, one}
 
 -- a verdict on n nets is clear, or names one of them, behind net 0
@@ -85,20 +85,20 @@ run-answered s st k rows outputs =
     (λ r h. let e = run-refused s st k rows outputs r h in rw e (turned-back (tabled s (table.run st k rows outputs) r (rw e))))
 
 -- THE FIGURES of the doubled netlist
-figure-answered : (s : List ℕ) (figure : ℕ) → (sizeRefusal s ≡ none → figure ≤ 8192) → Answered (λ n. n ≤ 8192) (figureIn (doubledSizeOf s .refusal) figure)
+figure-answered : (s : List ℕ) (figure : ℕ) → (sizeRefusal s ≡ none → figure ≤ 8192) → Answered (λ n. n ≤ 8192) (figureAnswer (doubledSizeOf s .refusal) figure)
 figure-answered s figure few =
     rw (size-given s)
     (either-way (sizeRefusal s)
     (λ e. rw e (gave figure (few e)))
     (λ r e. rw e (turned-back (tabled s table.doubled-size r (size-given s ∙ e)))))
 
-few-nets : (s : List ℕ) → sizeRefusal s ≡ none → doubledSizeOf s .nets ≤ 8192
+pub few-nets : (s : List ℕ) → sizeRefusal s ≡ none → doubledSizeOf s .nets ≤ 8192
 few-nets s e = rw (size-accepted s e) (size-none s .0 e .1)
 
-pub size-answered : (s : List ℕ) → Answered (λ n. n ≤ 8192) (figureIn (doubledSizeOf s .refusal) (doubledSizeOf s .nets))
+pub size-answered : (s : List ℕ) → Answered (λ n. n ≤ 8192) (figureAnswer (doubledSizeOf s .refusal) (doubledSizeOf s .nets))
 size-answered s = figure-answered s _ (few-nets s)
 
-pub kind-answered : (s : List ℕ) (k : ℕ) → Answered (λ n. n ≤ 8192) (figureIn (doubledSizeOf s .refusal) (getD (doubledSizeOf s .kinds) k 0))
+pub kind-answered : (s : List ℕ) (k : ℕ) → Answered (λ n. n ≤ 8192) (figureAnswer (doubledSizeOf s .refusal) (getD (doubledSizeOf s .kinds) k 0))
 kind-answered s k =
     figure-answered s _
     (λ e. rw (size-accepted s e) (omega (arith, count-few k (doubledNets (netsOf s)), doubled-length (netsOf s), size-none s .0 e .1)))

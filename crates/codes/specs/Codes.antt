@@ -26,9 +26,9 @@ abbrev pub firstFlowCode : FirstFlow → ℕ
 firstFlowCode f = f .cycle * 65536 + verdictCode (f .verdict)
 
 -- one of the figures of the doubled netlist, where they are not refused
-abbrev pub figureIn : Option Refusal → (figure : ℕ) → Answer ℕ
-figureIn none figure = done figure
-figureIn (some r) figure = refused r
+abbrev pub figureAnswer : Option Refusal → (figure : ℕ) → Answer ℕ
+figureAnswer none figure = done figure
+figureAnswer (some r) figure = refused r
 
 -- a call with a result, and the number of that result
 abbrev pub answerCode : {A : Type 0} → (A → ℕ) → Answer A → ℕ
@@ -37,8 +37,8 @@ answerCode code (refused r) = refusalCode r
 
 -- the doubled size: the number of nets
 abbrev pub sizeCode : Figures → ℕ
-sizeCode f = answerCode (λ n. n) (figureIn (f .refusal) (f .nets))
+sizeCode f = answerCode (λ n. n) (figureAnswer (f .refusal) (f .nets))
 
 -- the doubled size by kind: the number of nets of kind k, which is 0 for a k above 8
 abbrev pub kindCode : Figures → (k : ℕ) → ℕ
-kindCode f k = answerCode (λ n. n) (figureIn (f .refusal) (getD (f .kinds) k 0))
+kindCode f k = answerCode (λ n. n) (figureAnswer (f .refusal) (getD (f .kinds) k 0))

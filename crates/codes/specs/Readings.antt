@@ -13,7 +13,7 @@ use Rattle.cycle.specs.Cycle.{Verdict, clear, flow, FirstFlow}
 use Rattle.cycle.specs.Calls.{Answer, done, refused, powerUpOf, stepOf, runOf}
 use Rattle.figures.specs.Figures.{doubledSizeOf}
 use Rattle.doubling.specs.Doubling.{doubleOf}
-use Rattle.codes.specs.Codes.{refusalCode, outcomeCode, verdictCode, firstFlowCode, figureIn, answerCode, sizeCode, kindCode}
+use Rattle.codes.specs.Codes.{refusalCode, outcomeCode, verdictCode, firstFlowCode, figureAnswer, answerCode, sizeCode, kindCode}
 
 -- a refusal: its number stands above its place
 abbrev pub refusalRead : ℕ → Refusal
@@ -51,9 +51,9 @@ pub record CodesRead : Type 0 where
   pub run :
       (s st : List ℕ) (k : ℕ) (rows outputs : List ℕ)
       → runRead (answerCode firstFlowCode (runOf s st k rows outputs .answer)) ≡ runOf s st k rows outputs .answer
-  pub doubled-size : (s : List ℕ) → figureRead (sizeCode (doubledSizeOf s)) ≡ figureIn (doubledSizeOf s .refusal) (doubledSizeOf s .nets)
+  pub doubled-size : (s : List ℕ) → figureRead (sizeCode (doubledSizeOf s)) ≡ figureAnswer (doubledSizeOf s .refusal) (doubledSizeOf s .nets)
   pub doubled-kind :
-      (s : List ℕ) (k : ℕ) → figureRead (kindCode (doubledSizeOf s) k) ≡ figureIn (doubledSizeOf s .refusal) (getD (doubledSizeOf s .kinds) k 0)
+      (s : List ℕ) (k : ℕ) → figureRead (kindCode (doubledSizeOf s) k) ≡ figureAnswer (doubledSizeOf s .refusal) (getD (doubledSizeOf s .kinds) k 0)
   pub double : (s buffer : List ℕ) → outcomeRead (outcomeCode (doubleOf s buffer .refusal)) ≡ doubleOf s buffer .refusal
   -- the numbers themselves: a refusal's number stands above its place, clear is 65,535, a flow its net, and a run's cycle stands above its verdict
   pub refusal-is : (r : Refusal) → refusalCode r ≡ r .number * 2 ^ 32 + r .place

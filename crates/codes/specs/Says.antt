@@ -32,12 +32,16 @@ pub record NumbersSay : Type 0 where
   -- a doubled size below 2^32: doubling accepts a buffer of 8 + 7 × as many bytes, and writes that many nets
   pub doubled-size :
       (s buf : List ℕ) → sizeCode (doubledSizeOf s) < 2 ^ 32 → length buf ≡ 8 + 7 * sizeCode (doubledSizeOf s)
-      → (doubleOf s buf .refusal ≡ none) × (sizesOf (doubleOf s buf .buffer) .nets ≡ sizeCode (doubledSizeOf s))
-  -- and, for a kind from 0 to 8, as many nets of that kind as the number for it says. There are none of a kind above 8
+      → (outcomeCode (doubleOf s buf .refusal) ≡ 0) × (sizesOf (doubleOf s buf .buffer) .nets ≡ sizeCode (doubledSizeOf s))
+  -- a doubled size of 2^32 or more: doubling answers the same number, whatever it is lent, and so does the call for a kind
+  pub doubled-turned :
+      (s buf : List ℕ) (k : ℕ) → 2 ^ 32 ≤ sizeCode (doubledSizeOf s)
+      → (outcomeCode (doubleOf s buf .refusal) ≡ sizeCode (doubledSizeOf s)) × (kindCode (doubledSizeOf s) k ≡ sizeCode (doubledSizeOf s))
+  -- where doubling answers 0: it has written as many nets of a kind from 0 to 8 as the number for that kind says. Of a kind above 8 there are none
   pub doubled-kind :
-      (s buf : List ℕ) (k : ℕ) → k ≤ 8 → doubleOf s buf .refusal ≡ none
+      (s buf : List ℕ) (k : ℕ) → k ≤ 8 → outcomeCode (doubleOf s buf .refusal) ≡ 0
       → kindCode (doubledSizeOf s) k ≡ count k (netsOf (doubleOf s buf .buffer))
-  pub doubled-no-kind : (s buf : List ℕ) (k : ℕ) → 8 < k → doubleOf s buf .refusal ≡ none → kindCode (doubledSizeOf s) k ≡ 0
+  pub doubled-no-kind : (s buf : List ℕ) (k : ℕ) → 8 < k → outcomeCode (doubleOf s buf .refusal) ≡ 0 → kindCode (doubledSizeOf s) k ≡ 0
   -- a step answers 65,535: by the bytes that it leaves, no protected OUT is marked
   pub step-clear :
       (s st row nets : List ℕ) → answerCode verdictCode (stepOf s st row nets .answer) ≡ 65535

@@ -6,10 +6,10 @@ use refusals::Outcome;
 use refusals::Refusal;
 ghost use mathlib.Core.Path.{_≡_};
 ghost use Prim.Native.Nat.{_^_, _<_};
-ghost use lib.ListN.{length, getD};
+ghost use lib.ListN.{getD};
 ghost use Rattle.refusals.specs.Refusals.{refusalIn};
 ghost use Rattle.cycle.specs.Answers.{verdictIn, stepAnswerIn, runAnswerIn};
-ghost use Rattle.codes.specs.Codes.{refusalCode, outcomeCode, verdictCode, firstFlowCode, figureIn, answerCode};
+ghost use Rattle.codes.specs.Codes.{refusalCode, outcomeCode, verdictCode, firstFlowCode, figureAnswer, answerCode};
 
 // The refusal's number × 2^32 + its place.
 fn refusal_code(r: Refusal) -> u64
@@ -42,19 +42,19 @@ pub fn outcome_code(o: Outcome) -> u64
 
 // A figure of the doubled netlist, or the refusal.
 pub fn figure_code(o: Outcome, figure: usize) -> u64
-    requires { ⌜ answerCode (λ n. n) (figureIn (refusalIn o) figure) < 2 ^ 64 ⌝ }
-    ensures { λ c. ⌜ c ≡ answerCode (λ n. n) (figureIn (refusalIn o) figure) ⌝ }
+    requires { ⌜ answerCode (λ n. n) (figureAnswer (refusalIn o) figure) < 2 ^ 64 ⌝ }
+    ensures { λ c. ⌜ c ≡ answerCode (λ n. n) (figureAnswer (refusalIn o) figure) ⌝ }
 {
     match o {
         Outcome::Done => figure as u64,
-        Outcome::Refused(r) => refusal_code(r),
+        Outcome::Refused(refusal) => refusal_code(refusal),
     }
 }
 
 // The count of one kind, which is 0 for a kind above 8; or the refusal.
 pub fn kind_code(o: Outcome, kinds: [u16; 9], kind: usize) -> u64
-    requires { ⌜ (length kinds ≡ 9) × (answerCode (λ n. n) (figureIn (refusalIn o) (getD kinds kind 0)) < 2 ^ 64) ⌝ }
-    ensures { λ c. ⌜ c ≡ answerCode (λ n. n) (figureIn (refusalIn o) (getD kinds kind 0)) ⌝ }
+    requires { ⌜ answerCode (λ n. n) (figureAnswer (refusalIn o) (getD kinds kind 0)) < 2 ^ 64 ⌝ }
+    ensures { λ c. ⌜ c ≡ answerCode (λ n. n) (figureAnswer (refusalIn o) (getD kinds kind 0)) ⌝ }
 {
     if 8 < kind {
         return figure_code(o, 0);

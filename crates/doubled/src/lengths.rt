@@ -10,7 +10,7 @@ ghost use Rattle.doubled.specs.Starts.{Starts};
 // The group lengths for kinds 0 to 8.
 const GROUP_LENGTHS: [u16; 9] = [2, 2, 2, 2, 6, 8, 2, 7, 2];
 
-// The table by value. It is taken once a call, since a constant is copied to the stack wherever it is named.
+// The table by value, which is taken before a loop: a constant is copied to the stack wherever it is named.
 pub fn group_lengths() -> [u16; 9]
     ensures { λ r. ⌜ r ≡ groupLengths ⌝ }
 {

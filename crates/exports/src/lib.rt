@@ -68,7 +68,7 @@ pub extern "C" fn tracker_doubled_size(image: &[u8]) -> u64
     figure_code(o, d.nets)
 }
 
-// The number of its nets of one kind.
+// The number of nets of one kind in the doubled netlist, which is 0 for a kind above 8.
 #[no_mangle]
 pub extern "C" fn tracker_doubled_kind(image: &[u8], kind: usize) -> u64
     ensures { λ r. ⌜ r ≡ kindCode (doubledSizeOf (now (image .entry))) kind ⌝ }

@@ -2,20 +2,18 @@
 use Prim.Native.Nat.{ℕ, suc, _+_, _≤_, _<_}
 use mathlib.Core.Path.{_≡_, refl, sym, ap, _∙_}
 use mathlib.Core.List.{List, [], _∷_, _++_, append-assoc, append-nil}
-use mathlib.Core.Bool.{Bool, true, false}
+use mathlib.Core.Bool.{Bool, true, false, cond}
 use native.Mathlib.Nat.{zero-add}
 use native.Mathlib.Omega.{arith}
 use lib.Dec.{T, eqb, ltb, ltb→lt}
 use lib.ListN.{length, getD, take, replicate, length-set}
-use lib.Seq.{getD-set-same, getD-set-other, take-all, take-suc, length-take-le}
-use borrow.Author.Tests.{eqb-true, eqb-false}
+use lib.Seq.{take-all, take-suc, length-take-le}
 use Rattle.gates.proofs.Laws.{and-T}
 use Rattle.image.specs.declared.image.Net.{Net}
 use Rattle.image.specs.Image.{count}
-use Rattle.image.proofs.Nets.{count-most}
 use Rattle.image.proofs.Encoding.{nothing}
 use Rattle.checking.specs.Counts.{kindCounts, raised}
-use Rattle.checking.proofs.Counting.{counts-length, count-at, counts-raised}
+use Rattle.checking.proofs.Counting.{counts-length, count-few, raised-place, counts-raised}
 use Rattle.doubled.specs.Doubled.{doubledSize, valueNet, markNet, groupAt, groupsFrom, doubledNets}
 use Rattle.doubled.proofs.Positions.{groups-length, groups-append, value-up}
 use Rattle.figures.specs.Tables.{raisedBy, NineCounts}
@@ -23,11 +21,15 @@ use Rattle.figures.proofs.Rows.{kindsOf, row, kinds-small, group-row}
 
 -- a place raised raises no count by more than 1
 pub raised-most : {m : ℕ} {counts : List ℕ} (k : ℕ) → k < 9 → NineCounts m counts → NineCounts (m + 1) (raised counts k)
-raised-most {m} {counts} k l h = record { nine = length-set counts k _ ∙ h .nine; most = λ j i. by j i (eqb k j) refl }
+raised-most {m} {counts} k l h =
+    record {
+      nine = length-set counts k _ ∙ h .nine;
+      most = λ j i. rw (raised-place counts k j (rw (h .nine) l)) (add-most (eqb k j) (h .most j i));
+    }
   where
-    by : (j : ℕ) → j < 9 → (b : Bool) → eqb k j ≡ b → getD (raised counts k) j 0 ≤ m + 1
-    by j i true e = rw (← eqb-true k j e) (omega (arith, getD-set-same counts k (getD counts k 0 + 1) 0 (omega (arith, h .nine)), h .most k l))
-    by j i false e = omega (arith, getD-set-other counts k j (getD counts k 0 + 1) 0 (λ d. eqb-false k j e (sym d)), h .most j i)
+    add-most : (b : Bool) {n : ℕ} → n ≤ m → n + cond b 1 0 ≤ m + 1
+    add-most true e = omega arith
+    add-most false e = omega arith
 
 -- the counts of some nets, raised by the kinds of further nets, are the counts of all of them
 counts-more : (xs ys : List Net) → T (kinds-small ys) → raisedBy (kindCounts xs) (kindsOf ys) ≡ kindCounts (xs ++ ys)
@@ -77,5 +79,5 @@ counts-room xs i m h =
     let before = groupsFrom xs 0 (take i xs) in
     record {
       nine = counts-length before;
-      most = λ k l. rw (count-at k before l) (omega (arith, count-most k before, groups-length xs 0 (take i xs), value-up xs i));
+      most = λ k l. omega (arith, count-few k before, groups-length xs 0 (take i xs), value-up xs i);
     }

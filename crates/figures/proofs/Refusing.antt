@@ -4,16 +4,14 @@ use mathlib.Core.Logic.{_↔_}
 use mathlib.Core.Path.{_≡_, refl}
 use mathlib.Core.List.{List}
 use mathlib.Core.Option.{Option, none, some}
-use lib.ListN.{length}
 use borrow.Author.Tests.{lt-ltb, le-ltb}
 use Rattle.image.specs.Image.{netsOf}
 use Rattle.refusals.specs.declared.answer.Refusal.{Refusal}
 use Rattle.refusals.specs.Refusals.{refusal}
 use Rattle.refusals.proofs.Refusals.{accepted}
 use Rattle.checking.specs.Check.{checkRefusal}
-use Rattle.checking.proofs.Counting.{counts-length}
 use Rattle.checking.proofs.Checked.{Checked, check-none}
-use Rattle.doubled.specs.Doubled.{doubledSize, doubledNets}
+use Rattle.doubled.specs.Doubled.{doubledSize}
 use Rattle.figures.specs.Figures.{figuresOf, noFigures, sizeRefusal, doubledSizeOf}
 
 pub size-none : (s : List ℕ) → (sizeRefusal s ≡ none) ↔ (Checked s × (doubledSize (netsOf s) ≤ 8192))
@@ -35,14 +33,6 @@ module _ (s : List ℕ) where
       by : (o : Option Refusal) → sizeRefusal s ≡ o → doubledSizeOf s .refusal ≡ sizeRefusal s
       by none e = rw (size-accepted e, e)
       by (some r) e = rw (size-refused r e, e)
-
-  -- there are nine counts, also beside a refusal
-  pub nine-kinds : length (doubledSizeOf s .kinds) ≡ 9
-  nine-kinds = by (sizeRefusal s) refl
-    where
-      by : (o : Option Refusal) → sizeRefusal s ≡ o → length (doubledSizeOf s .kinds) ≡ 9
-      by none e = rw (size-accepted e) (counts-length (doubledNets (netsOf s)))
-      by (some r) e = rw (size-refused r e)
 
   -- by the code's tests
   pub not-checked : (r : Refusal) → checkRefusal s ≡ some r → doubledSizeOf s ≡ noFigures r

@@ -23,7 +23,7 @@ const GROUP_KINDS: [u8; 72] = *b"\
     \x08\x08\x00\x00\x00\x00\x00\x00\
     ";
 
-// The table by value, taken once a call.
+// The table by value, which is taken before a loop.
 fn group_kinds() -> [u8; 72]
     ensures { λ r. ⌜ r ≡ groupKinds ⌝ }
 {
@@ -40,16 +40,21 @@ fn raise(counts: [u16; 9], kind: u8) -> [u16; 9]
     more
 }
 
-// The nets of one group, whose kinds stand in the table from place first up to end.
+// The nets of one group, whose kinds stand in the table from place first up to end, two to a turn.
 fn count_group(counts: &mut [u16; 9], kinds: &[u8; 72], first: usize, end: usize)
     requires { ⌜ (now kinds ≡ groupKinds) × (first ≤ end) × (end ≤ 72) × NineCounts 8192 (now counts) ⌝ }
     ensures { λ r. ⌜ now (counts .exit) ≡ raisedBy (now (counts .entry)) (places groupKinds first end) ⌝ }
 {
     let mut j = first;
-    while j < end {
-        let next = raise(*counts, kinds[j]);
-        *counts = next;
-        j += 1;
+    while j + 1 < end {
+        let one = raise(*counts, kinds[j]);
+        let two = raise(one, kinds[j + 1]);
+        *counts = two;
+        j += 2;
+    }
+    if j < end {
+        let last = raise(*counts, kinds[j]);
+        *counts = last;
     }
 }
 

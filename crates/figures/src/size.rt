@@ -16,7 +16,7 @@ ghost use Rattle.figures.specs.Figures.{noFigures, doubledSizeOf};
 ghost use Rattle.figures.specs.Answers.{figures};
 
 // The nets of the doubled netlist of an accepted image: the group lengths, summed.
-fn size_of(image: &[u8], n: usize) -> usize
+fn sum_lengths(image: &[u8], n: usize) -> usize
     requires { ⌜ (checkRefusal (now image) ≡ none) × (n ≡ sizesOf (now image) .nets) ⌝ }
     ensures { λ r. ⌜ r ≡ doubledSize (netsOf (now (image .entry))) ⌝ }
 {
@@ -52,7 +52,7 @@ pub fn doubled_size(image: &[u8]) -> DoubledSize
         return no_size(r);
     }
     let n = sizes_of(image).nets;
-    let size = size_of(image, n);
+    let size = sum_lengths(image, n);
     if 8192 < size {
         return no_size(Refusal {
             number: 15,

@@ -4,12 +4,12 @@ use mathlib.Core.Path.{sym, ap, _∙_, subst}
 use borrow.Author.Needs.{needs}
 use Rattle.refusals.specs.declared.answer.Outcome.{Outcome}
 use Rattle.refusals.specs.Refusals.{refusalIn}
-use Rattle.codes.specs.Codes.{figureIn, answerCode}
+use Rattle.codes.specs.Codes.{figureAnswer, answerCode}
 use Rattle.codes.proofs.codes.figure_code.Statement.{statement}
 use Rattle.codes.proofs.codes.figure_code.Tie as tie
 
 abbrev code : Outcome → (figure : ℕ) → ℕ
-code o figure = answerCode (λ n. n) (figureIn (refusalIn o) figure)
+code o figure = answerCode (λ n. n) (figureAnswer (refusalIn o) figure)
 
 returns : tie.Need-returns
 returns c = ap (λ o. code o (c .before .before .args .figure)) (sym (c .enum-told .given .1))

@@ -9,10 +9,11 @@ use Rattle.codes.proofs.codes.kind_code.Tie as tie
 none-there : (c : tie.Then1) → getD (c .before .args .t2) (c .before .args .kind) 0 ≡ 0
 none-there c =
     let begin = c .before in
-    List·getD-eq-default (begin .args .t2) 0 {n = begin .args .kind} (omega (arith, begin .pre .0, c .if1 .taken))
+    let nine = begin .good .1 .0 .1 .0 .1 in
+    List·getD-eq-default (begin .args .t2) 0 {n = begin .args .kind} (omega (arith, nine, c .if1 .taken))
 
 figure-code-requires : tie.Need-figure-code-requires
-figure-code-requires c κs = rw (none-there c) at (c .before .pre .1)
+figure-code-requires c κs = rw (none-there c) at (c .before .pre)
 
 returns : tie.Need-returns
 returns c = c .figure-code .ensures ∙ rw (none-there (c .before))

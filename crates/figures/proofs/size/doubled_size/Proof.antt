@@ -27,19 +27,19 @@ accepted c = sym (c .before .before .check .ensures) ∙ ap refusalIn (c .enum-t
 sizes-of-requires : tie.Need-sizes-of-requires
 sizes-of-requires c κs = omega (arith, check-none _ .0 (accepted c) .exact)
 
-size-of-requires : tie.Need-size-of-requires
-size-of-requires c κs = (accepted (c .before), ap (λ (z : Sizes). z .nets) (c .sizes-of .ensures))
+sum-lengths-requires : tie.Need-sum-lengths-requires
+sum-lengths-requires c κs = (accepted (c .before), ap (λ (z : Sizes). z .nets) (c .sizes-of .ensures))
 
 returns-2 : tie.Need-returns-2
 returns-2 c =
     let sized = c .before .before in
     let begin = sized .before .before .before .before .before .before in
     c .no-size2 .ensures
-    ∙ sym (too-large (begin .args .image .now) (accepted (sized .before .before)) (rw (← sized .size-of .ensures) (c .before .if1 .taken)))
+    ∙ sym (too-large (begin .args .image .now) (accepted (sized .before .before)) (rw (← sized .sum-lengths .ensures) (c .before .if1 .taken)))
 
 -- past 15
 room : (c : tie.Else1) → doubledSize (netsOf (c .before .before .before .before .before .before .before .args .image .now)) ≤ 8192
-room c = rw (← c .before .size-of .ensures) (c .if1 .left)
+room c = rw (← c .before .sum-lengths .ensures) (c .if1 .left)
 
 count-kinds-requires : tie.Need-count-kinds-requires
 count-kinds-requires c κs =
@@ -50,7 +50,7 @@ returns-3 : tie.Need-returns-3
 returns-3 c =
     let sized = c .before .before in
     let begin = sized .before .before .before .before .before .before in
-    rw (sized .size-of .ensures, c .count-kinds .ensures) (sym (fits (begin .args .image .now) (accepted (sized .before .before)) (room (c .before))))
+    rw (sized .sum-lengths .ensures, c .count-kinds .ensures) (sym (fits (begin .args .image .now) (accepted (sized .before .before)) (room (c .before))))
 
 pub doubled-size-spec : {M : Type 1} → statement M
 doubled-size-spec =
@@ -62,7 +62,7 @@ doubled-size-spec =
     returns
     (λ c. search needs)
     sizes-of-requires
-    size-of-requires
+    sum-lengths-requires
     (λ c κs. search needs)
     returns-2
     (λ c. search needs)

@@ -1,4 +1,4 @@
--- `figures::size::size_of` meets its contract: at net i the groups of the nets before it are summed.
+-- `figures::size::sum_lengths` meets its contract: at net i the groups of the nets before it are summed.
 use Prim.Native.Nat.{_+_, _-_, _≤_, _<_}
 use mathlib.Core.Path.{_≡_, sym, _∙_}
 use native.Mathlib.Omega.{arith}
@@ -11,8 +11,8 @@ use Rattle.groups.specs.Groups.{groupLength}
 use Rattle.doubled.specs.Doubled.{valueNet}
 use Rattle.doubled.proofs.Positions.{value-end}
 use Rattle.doubled.proofs.Sums.{start-zero, kind-small, next-start, starts-fit}
-use Rattle.figures.proofs.size.size_of.Statement.{statement}
-use Rattle.figures.proofs.size.size_of.Tie as tie
+use Rattle.figures.proofs.size.sum_lengths.Statement.{statement}
+use Rattle.figures.proofs.size.sum_lengths.Tie as tie
 
 abbrev Inv-loop : tie.InvT-loop
 Inv-loop image n lengths size₀ i₀ size i = (i ≤ n) × (size ≡ valueNet (netsOf image) i)
@@ -59,8 +59,8 @@ returns c =
     let begin = at .before .before .before in
     at .loop .inv .1 ∙ value-end _ (at .loop .i) (omega (arith, c .loop-test .left, begin .pre .1, length-nets (begin .args .image .now)))
 
-pub size-of-spec : {M : Type 1} → statement M
-size-of-spec =
+pub sum-lengths-spec : {M : Type 1} → statement M
+sum-lengths-spec =
     tie.close
     (tie.spec
     Inv-loop
