@@ -91,7 +91,7 @@ uint64_t tracker_run(const uint8_t *image, size_t image_length,
 uint64_t tracker_doubled_size(const uint8_t *image, size_t image_length);
 
 /* How many nets of one kind, 0 to 8, the doubled netlist has. Writes nothing. Answers with that number, which is 0 for every kind above 8, or with the
- * refusal of tracker_doubled_size, whatever the kind. */
+ * refusal of tracker_doubled_size, whatever the kind. The numbers of kinds 0 to 8 add up to the number of its nets. */
 uint64_t tracker_doubled_kind(const uint8_t *image, size_t image_length,
                               size_t kind);
 

@@ -57,6 +57,7 @@ promised =
       groups = Groups.groups;
       figures-written = Figures.figures-written;
       turns-back-alike = Figures.turns-back-alike;
+      kinds-add-up = Figures.kinds-add-up;
       no-figures = Figures.no-figures;
       size-bound = Bound.size-bound;
       bound-reached = Bound.bound-reached;

@@ -1,7 +1,7 @@
 -- How big the doubled netlist gets (document 02, L1): the figures are those of the image that doubling writes, and beside a refusal they are 0.
-use Prim.Native.Nat.{ℕ, _≤_}
+use Prim.Native.Nat.{ℕ, _+_, _≤_}
 use mathlib.Core.Path.{_≡_}
-use mathlib.Core.List.{List}
+use mathlib.Core.List.{List, [], _∷_}
 use mathlib.Core.Option.{none, some}
 use lib.ListN.{length, getD, replicate}
 use Rattle.image.specs.Image.{sizesOf, netsOf, count}
@@ -26,6 +26,14 @@ FiguresWritten = (s buf : List ℕ) → doubleOf s buf .refusal ≡ none → Fig
 -- proved as `turns-back-alike`
 abbrev pub TurnsBackAlike : Type 0
 TurnsBackAlike = (s buf : List ℕ) → doubleOf s buf .refusal ≡ (doubledSizeOf s .refusal then badLength 16 (doubledSizeOf s .bytes) buf)
+
+-- the nets of the nine kinds add up to all nets; proved as `kinds-add-up`
+abbrev pub total : List ℕ → ℕ
+total [] = 0
+total (x ∷ xs) = x + total xs
+
+abbrev pub KindsAddUp : Type 0
+KindsAddUp = (s : List ℕ) → total (doubledSizeOf s .kinds) ≡ doubledSizeOf s .nets
 
 -- beside a refusal all figures are 0; proved as `no-figures`
 abbrev pub NoneBesideRefusal : Type 0

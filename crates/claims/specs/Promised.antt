@@ -14,7 +14,7 @@ use Rattle.claims.specs.Verdicts.{Verdicts, FirstFlows}
 use Rattle.claims.specs.Steps.{StepIsCycle, RunIsSteps}
 use Rattle.claims.specs.History.{Histories}
 use Rattle.claims.specs.DoubledImage.{DoubledChecks, DoublingWrites, DoubledReadsAll, DoubledPlaced, DoubledUnseen}
-use Rattle.claims.specs.Figures.{FiguresWritten, TurnsBackAlike, NoneBesideRefusal}
+use Rattle.claims.specs.Figures.{FiguresWritten, TurnsBackAlike, KindsAddUp, NoneBesideRefusal}
 use Rattle.claims.specs.Bound.{SizeBound, BoundReached}
 use Rattle.claims.specs.Groups.{Groups}
 use Rattle.claims.specs.Pairing.{Demand2}
@@ -82,6 +82,8 @@ pub record Promised : Type 0 where
   pub figures-written : FiguresWritten
   -- They are refused as doubling is, and a buffer of as many bytes as they say is what doubling asks for.
   pub turns-back-alike : TurnsBackAlike
+  -- The nets of the nine kinds add up to all nets.
+  pub kinds-add-up : KindsAddUp
   -- Beside a refusal all figures are 0.
   pub no-figures : NoneBesideRefusal
   -- No netlist of N nets doubles to more than 8 × N − 6 nets.

@@ -25,6 +25,7 @@ use Rattle.claims.specs.Accepted.{AcceptedImage}
 use Rattle.claims.specs.Examples.{counted, twoRows}
 use Rattle.claims.specs.NetBytes.{netOf, placeOf, Counted, HasByte}
 use Rattle.claims.specs.Steps.{stepsOf, outputsIn, lastState}
+use Rattle.claims.specs.Figures.{total}
 use Rattle.claims.specs.Bound.{orsImage}
 use Rattle.claims.specs.Groups.{oneOfEach, theirGroups}
 use Rattle.claims.specs.Verdicts.{MarkedOutput, Judged, lowest, First, first}
@@ -220,6 +221,9 @@ figures-accepted s a few = promised .when-accepted .doubled-size s .1 (a, few)
 
 figures-of : (s buf : List ℕ) → doubleOf s buf .refusal ≡ none → doubledSizeOf s .bytes ≡ length (doubleOf s buf .buffer)
 figures-of s buf w = promised .figures-written s buf w .bytes
+
+figures-summed : (s : List ℕ) → total (doubledSizeOf s .kinds) ≡ doubledSizeOf s .nets
+figures-summed = promised .kinds-add-up
 
 figures-refused : (s : List ℕ) (r : Refusal) → doubledSizeOf s .refusal ≡ some r → doubledSizeOf s ≡ record { refusal = some r; nets = 0; bytes = 0; kinds = replicate 9 0 }
 figures-refused = promised .no-figures
