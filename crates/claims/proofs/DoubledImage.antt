@@ -6,9 +6,9 @@ use Rattle.image.specs.Image.{sizesOf, netsOf}
 use Rattle.image.proofs.Pairs.{pairs-getD}
 use Rattle.image.proofs.Nets.{length-nets}
 use Rattle.checking.proofs.Checked.{check-none}
-use Rattle.doubling.specs.Doubling.{doubledImage}
 use Rattle.doubled.proofs.Positions.{value-end, value-next, group-length, group-net, value-register, mark-register, outs-free}
 use Rattle.doubled.proofs.Sums.{start-zero, mark-end}
+use Rattle.doubling.specs.Doubling.{doubledImage}
 use Rattle.doubling.proofs.Checks.{doubled-sizes, doubled-nets, doubled-checked, doubled-bytes, double-accepted}
 use Rattle.claims.specs.DoubledImage.{DoubledChecks, DoublingWrites, DoubledReadsAll, DoubledPlaced, DoubledUnseen}
 

@@ -27,11 +27,12 @@ FiguresWritten = (s buf : List ℕ) → doubleOf s buf .refusal ≡ none → Fig
 abbrev pub TurnsBackAlike : Type 0
 TurnsBackAlike = (s buf : List ℕ) → doubleOf s buf .refusal ≡ (doubledSizeOf s .refusal then badLength 16 (doubledSizeOf s .bytes) buf)
 
--- the nets of the nine kinds add up to all nets; proved as `kinds-add-up`
+-- the sum of some numbers
 abbrev pub total : List ℕ → ℕ
 total [] = 0
 total (x ∷ xs) = x + total xs
 
+-- the nets of the nine kinds add up to all nets; proved as `kinds-add-up`
 abbrev pub KindsAddUp : Type 0
 KindsAddUp = (s : List ℕ) → total (doubledSizeOf s .kinds) ≡ doubledSizeOf s .nets
 

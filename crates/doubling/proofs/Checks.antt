@@ -21,8 +21,8 @@ use Rattle.checking.proofs.Checked.{AllPass, nil, cons, Checked, check-none}
 use Rattle.checking.proofs.Encoded.{encode-bytes}
 use Rattle.groups.specs.Groups.{groupOf}
 use Rattle.doubled.specs.Doubled.{doubledSize, valueNet, markNet, groupAt, groupsFrom, doubledNets}
-use Rattle.doubling.specs.Doubling.{pairedSizes, doubledImage, doubleRefusal, doubleOf}
 use Rattle.doubled.proofs.Positions.{two-or-more, doubled-length, doubled-passes}
+use Rattle.doubling.specs.Doubling.{pairedSizes, doubledImage, doubleRefusal, doubleOf}
 
 -- the kinds that are counted
 data Counted : ℕ → Type 0 where

@@ -13,9 +13,9 @@ use Rattle.image.proofs.Written.{puts-append, written}
 use Rattle.checking.proofs.Checked.{Checked}
 use Rattle.groups.specs.Groups.{groupLength}
 use Rattle.doubled.specs.Doubled.{groupAt, groupsFrom, doubledSize, valueNet, doubledNets}
-use Rattle.doubling.specs.Doubling.{pairedSizes, doubledImage}
 use Rattle.doubled.proofs.Positions.{group-length, doubled-length, value-up}
 use Rattle.doubled.proofs.Sums.{next-start}
+use Rattle.doubling.specs.Doubling.{pairedSizes, doubledImage}
 
 -- an accepted image s of n nets, and its net i
 module _ {s : List ℕ} (c : Checked s) {n : ℕ} (e : n ≡ sizesOf s .nets) (i : ℕ) (h : i < n) where

@@ -14,8 +14,8 @@ ghost use Rattle.checking.specs.Check.{checkRefusal};
 ghost use Rattle.groups.specs.Groups.{groupLength};
 ghost use Rattle.large_groups.specs.Room.{Room};
 ghost use Rattle.doubled.specs.Doubled.{groupAt, doubledSize, valueNet, doubledNets};
-ghost use Rattle.doubling.specs.Doubling.{doubledImage};
 ghost use Rattle.doubled.specs.Starts.{Starts};
+ghost use Rattle.doubling.specs.Doubling.{doubledImage};
 
 // The group of net i.
 fn put_group_at(d: &mut [u8], size: usize, image: &[u8], starts: &[u16; 8193], i: usize)

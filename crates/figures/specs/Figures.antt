@@ -1,4 +1,4 @@
--- How big the doubled netlist gets: its nets, its bytes, and how many nets of each kind it holds.
+-- How big the doubled netlist gets (document 02, L1): its nets, its bytes, and how many nets of each of the nine kinds it holds.
 use Prim.Native.Nat.{ℕ, _+_, _*_}
 use mathlib.Core.List.{List}
 use mathlib.Core.Option.{Option, none, some}
@@ -37,5 +37,6 @@ noFigures r = record { refusal = some r; nets = 0; bytes = 0; kinds = replicate 
 unfoldable pub sizeRefusal : List ℕ → Option Refusal
 sizeRefusal s = checkRefusal s then refuse (ltb 8192 (doubledSize (netsOf s))) 15 0
 
+-- the call on the image s
 unfoldable pub doubledSizeOf : List ℕ → Figures
 doubledSizeOf s = elim (sizeRefusal s) [ none ↦ figuresOf (netsOf s) | some r ↦ noFigures r ]

@@ -12,9 +12,9 @@ use Rattle.refusals.specs.Refusals.{refusalIn, badLength}
 use Rattle.checking.specs.Check.{checkRefusal}
 use Rattle.checking.proofs.Checked.{Checked, check-none}
 use Rattle.doubled.specs.Doubled.{doubledSize}
-use Rattle.doubling.specs.Doubling.{doubledImage, doubleRefusal}
 use Rattle.doubled.proofs.Positions.{value-end}
 use Rattle.doubled.proofs.Sums.{starts-fit}
+use Rattle.doubling.specs.Doubling.{doubledImage, doubleRefusal}
 use Rattle.doubling.proofs.Checks.{double-none, double-refused, double-passed, double-failed}
 use Rattle.doubling.proofs.doubling.double.Statement.{statement}
 use Rattle.doubling.proofs.doubling.double.Tie as tie
