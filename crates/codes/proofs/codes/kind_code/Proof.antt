@@ -6,6 +6,7 @@ use lib.ListN.{getD, List·getD-eq-default}
 use Rattle.codes.proofs.codes.kind_code.Statement.{statement}
 use Rattle.codes.proofs.codes.kind_code.Tie as tie
 
+-- a kind above 8 is behind the array, which by its type has nine places (`good`)
 none-there : (c : tie.Then1) → getD (c .before .args .t2) (c .before .args .kind) 0 ≡ 0
 none-there c =
     let begin = c .before in
