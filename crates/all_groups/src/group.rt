@@ -18,8 +18,18 @@ use large_groups::put_two;
 ghost use mathlib.Core.Path.{_≡_};
 ghost use Prim.Native.Nat.{_≤_};
 ghost use Rattle.image.specs.Writing.{Fits, putNets};
-ghost use Rattle.groups.specs.Groups.{groupLength, groupBy};
+ghost use Rattle.groups.specs.Groups.{groupLength, markStart, groupBy};
 ghost use Rattle.large_groups.specs.Room.{Room, PairFits};
+
+// The start of a mark register, by the start b of its source.
+fn mark_start(b: usize) -> usize
+    ensures { λ r. ⌜ r ≡ markStart b ⌝ }
+{
+    if b == 2 {
+        return 1;
+    }
+    0
+}
 
 // The group of a net x, from the value nets and mark nets of its pins.
 pub fn put_group(d: &mut [u8], size: usize, v: usize, x: Net, a: Pair, b: Pair, c: Pair)
@@ -33,8 +43,8 @@ pub fn put_group(d: &mut [u8], size: usize, v: usize, x: Net, a: Pair, b: Pair, 
         CONST => put_two(d, size, v, CONST, x.a, 0, CONST, 0, 0),
         // INPUT; INPUT.
         INPUT => put_two(d, size, v, INPUT, 0, 0, INPUT, 0, 0),
-        // REG on va with start b; REG on ta with start 0.
-        REG => put_two(d, size, v, REG, a.value, x.b, REG, a.mark, 0),
+        // REG on va with start b; REG on ta, which starts at 1 where b is 2.
+        REG => put_two(d, size, v, REG, a.value, x.b, REG, a.mark, mark_start(x.b)),
         // NOT va; OR(ta, ta).
         NOT => put_two(d, size, v, NOT, a.value, 0, OR, a.mark, a.mark),
         AND => put_and(d, size, v, a, b),

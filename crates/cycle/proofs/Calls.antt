@@ -6,11 +6,11 @@ use mathlib.Core.Logic.{_↔_}
 use mathlib.Core.Path.{_≡_, refl, sym, _∙_}
 use mathlib.Core.List.{List}
 use mathlib.Core.Option.{Option, none, some}
-use mathlib.Core.Bool.{Bool, true, false, cond}
-use lib.Dec.{eqb, lit≤}
+use lib.Dec.{eqb}
 use lib.ListN.{length, take, drop, length-drop}
 use lib.Seq.{length-take-le}
-use Rattle.gates.proofs.Laws.{Code}
+use Rattle.gates.specs.Rules.{byte}
+use Rattle.gates.proofs.Laws.{Code, byte-code}
 use Rattle.image.specs.Image.{sizesOf, netsOf}
 use Rattle.image.proofs.Pairs.{pairs-take, pairs-drop}
 use Rattle.refusals.specs.declared.answer.Refusal.{Refusal}
@@ -25,7 +25,11 @@ pub either-way : {A : Type 0} (o : Option Refusal) → (o ≡ none → A) → ((
 either-way none f g = f refl
 either-way (some r) f g = g r refl
 
--- POWER-UP
+-- POWER-UP. The byte of each start: its value, trusted; or value 0 and mark 1 where none is given
+pub start-bytes : (start 0 ≡ 0) × (start 1 ≡ 1) × (start 2 ≡ 2)
+unfolding start byte
+start-bytes = (refl, refl, refl)
+
 pub power-up-accepted : (s st : List ℕ) → powerUpRefusal s st ≡ none → powerUpOf s st ≡ record { refusal = none; state = starts (netsOf s) }
 unfolding powerUpOf
 power-up-accepted s st h = rw (h, powerUpOf)
@@ -97,11 +101,7 @@ run-none s st k rows outputs = (
 -- power-up leaves a state, and so does a cycle
 start-code : (b : ℕ) → start b ≤ 3
 unfolding start
-start-code b = low (eqb b 1)
-  where
-    low : (c : Bool) → cond c 1 0 ≤ 3
-    low true = lit≤ tt
-    low false = lit≤ tt
+start-code b = byte-code (eqb b 1) (eqb b 2)
 
 pub starts-state : {s : List ℕ} → Checked s → IsState s (starts (netsOf s))
 unfolding starts

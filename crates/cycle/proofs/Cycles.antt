@@ -1,5 +1,5 @@
 -- Cycles on related rows and states: a relation of bytes that the gates keep holds of every byte that comes of them.
--- Its instances: agreement, and codes.
+-- Its instances: agreement, values, and codes.
 use Prim.Native.Nat.{ℕ, zero, suc, _≤_}
 use native.Mathlib.Omega.{arith}
 use mathlib.Core.Path.{_≡_, refl}
@@ -10,7 +10,7 @@ use lib.ListN.{length, getD}
 use Rattle.gates.specs.Rules.{gateByte}
 use Rattle.gates.specs.Relations.{AgreeByte, same, Agree}
 use Rattle.gates.specs.Kinds.{REG, OUT}
-use Rattle.gates.proofs.Laws.{Gates, gates-agree, agree-mark, Code, gates-code}
+use Rattle.gates.proofs.Laws.{Gates, gates-agree, agree-mark, SameValue, gates-values, Code, gates-code}
 use Rattle.image.specs.declared.image.Net.{Net}
 use Rattle.image.specs.Image.{count}
 use Rattle.image.proofs.Pairs.{pairs-append, pairs-getD, pairs-take, pairs-drop}
@@ -149,6 +149,18 @@ module _ {n : ℕ} {xs : List Net} (ps : AllPass n 0 xs) where
       → Forall₂ (Related AgreeByte _≡_) (cyclesOf xs i k rows st) (cyclesOf xs i k rows′ st′)
   agree-cycles = cycles-related agree-kept agree-verdict ps
 
+-- a relation that says nothing of verdicts
+abbrev pub AnyVerdicts : Verdict → Verdict → Type 0
+AnyVerdicts v w = Unit {0}
+
+-- VALUES: the plain values of a cycle depend on the plain values of its row and its state alone, whatever the marks
+value-kept : Kept SameValue
+value-kept = record { const = λ a h. record { values = refl }; gate = gates-values }
+
+pub values-cycle : {n : ℕ} {xs : List Net} {row row′ st st′ : List ℕ} → AllPass n 0 xs → Forall₂ SameValue row row′ → Forall₂ SameValue st st′
+    → Related SameValue AnyVerdicts (cycleOf xs row st) (cycleOf xs row′ st′)
+values-cycle ps = cycle-related {Q = AnyVerdicts} value-kept (λ i xs bs cs h. tt) ps
+
 -- CODES: a cycle's bytes are 0 to 3 where its row's and its state's are
 pub code-kept : Kept Code
 code-kept = record { const = λ a h. omega arith; gate = gates-code }
@@ -157,8 +169,8 @@ pub codes-outputs : {bs : List ℕ} (i : ℕ) (xs : List Net) → Codes bs → C
 codes-outputs = outputs-related code-kept
 
 pub codes-cycle : {n : ℕ} {xs : List Net} {row st : List ℕ} → AllPass n 0 xs → Codes row → Codes st
-    → Related Code (λ v w. Unit {0}) (cycleOf xs row st) (cycleOf xs row st)
-codes-cycle ps = cycle-related {Q = λ v w. Unit {0}} code-kept (λ i xs bs cs h. tt) ps
+    → Related Code AnyVerdicts (cycleOf xs row st) (cycleOf xs row st)
+codes-cycle ps = cycle-related {Q = AnyVerdicts} code-kept (λ i xs bs cs h. tt) ps
 
 -- LENGTHS
 pub registers-length : (f : Net → ℕ) (xs : List Net) → length (registers f xs) ≡ count REG xs

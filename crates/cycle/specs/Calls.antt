@@ -2,8 +2,8 @@
 use Prim.Native.Nat.{ℕ, _*_}
 use mathlib.Core.List.{List}
 use mathlib.Core.Option.{Option, none, some}
-use mathlib.Core.Bool.{cond}
 use lib.Dec.{eqb, ltb}
+use Rattle.gates.specs.Rules.{byte}
 use Rattle.image.specs.declared.image.Sizes.{Sizes}
 use Rattle.image.specs.declared.image.Net.{Net}
 use Rattle.image.specs.Image.{sizesOf, netsOf}
@@ -21,9 +21,9 @@ pub data Answer (A : Type 0) : Type 0 where
   done : A → Answer A
   refused : Refusal → Answer A
 
--- the byte that a register powers up with, by its operand b, which is 0, 1, or 2 for none given: the start value, or 0, with mark 0
+-- the byte that a register powers up with, by its operand b, which is 0, 1, or 2 for none given: the start value, trusted; or, where none is given, value 0 and mark 1
 unfoldable pub start : ℕ → ℕ
-start b = cond (eqb b 1) 1 0
+start b = byte (eqb b 1) (eqb b 2)
 
 -- power-up: that byte for each register, in net order
 unfoldable pub starts : List Net → List ℕ

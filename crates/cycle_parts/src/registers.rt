@@ -11,12 +11,15 @@ ghost use Rattle.checking.specs.Check.{checkRefusal};
 ghost use Rattle.cycle.specs.Cycle.{clocked};
 ghost use Rattle.cycle.specs.Calls.{start, starts};
 
-// The byte that a register powers up with, by its operand b.
+// The byte that a register powers up with, by its operand b: the start value, trusted; or, where none is given, value 0 and mark 1.
 fn start_byte(b: usize) -> u8
     ensures { λ r. ⌜ r ≡ start b ⌝ }
 {
     if b == 1 {
         return 1;
+    }
+    if b == 2 {
+        return 2;
     }
     0
 }

@@ -19,7 +19,8 @@ use Rattle.image.proofs.Pairs.{pairs-append, pairs-getD}
 use Rattle.image.proofs.Encoding.{nothing}
 use Rattle.net_checking.proofs.Passes.{kind-most, Passes, is-const, is-input, is-reg, is-not, is-and, is-or, is-xor, is-mux, is-out}
 use Rattle.checking.proofs.Checked.{AllPass, nil, cons}
-use Rattle.groups.specs.Groups.{groupLengths, groupLength, groupOf}
+use Rattle.groups.specs.Groups.{groupLengths, groupLength, markStart, groupOf}
+use Rattle.groups.proofs.Groups.{mark-start-code}
 use Rattle.doubled.specs.Doubled.{doubledSize, valueNet, markNet, groupAt, groupsFrom, doubledNets}
 
 pub below-or : (j i : ℕ) → j < suc i → (j < i) ⊎ (j ≡ i)
@@ -154,7 +155,10 @@ earlier v = omega arith
 zero-le-any : {n : ℕ} → 0 ≤ n
 zero-le-any = omega arith
 
-ruleset passing = (nil, cons, is-const, is-input, is-reg, is-not, is-and, is-or, is-xor, is-mux, is-out, up, zero-le-any)
+mark-start-passes : (b : ℕ) → markStart b ≤ 2
+mark-start-passes b = omega (arith, mark-start-code b)
+
+ruleset passing = (nil, cons, is-const, is-input, is-reg, is-not, is-and, is-or, is-xor, is-mux, is-out, up, zero-le-any, mark-start-passes)
 
 -- the group of a net that passes as net i of n, at v of D nets
 module _ (n i D v : ℕ) (val mrk : ℕ → ℕ)
@@ -240,7 +244,7 @@ mark-second xs i h = omega arith
 module _ (xs : List Net) (i : ℕ) (h : i < length xs) (e : getD xs i nothing .kind ≡ 2) where
   register-group :
       groupAt xs i (getD xs i nothing)
-      ≡ net 2 (valueNet xs (getD xs i nothing .a)) (getD xs i nothing .b) 0 ∷ net 2 (markNet xs (getD xs i nothing .a)) 0 0 ∷ []
+      ≡ net 2 (valueNet xs (getD xs i nothing .a)) (getD xs i nothing .b) 0 ∷ net 2 (markNet xs (getD xs i nothing .a)) (markStart (getD xs i nothing .b)) 0 ∷ []
   unfolding groupOf
   register-group = rw e
 
@@ -251,7 +255,7 @@ module _ (xs : List Net) (i : ℕ) (h : i < length xs) (e : getD xs i nothing .k
   pub value-register : getD (doubledNets xs) (valueNet xs i) nothing ≡ net 2 (valueNet xs (getD xs i nothing .a)) (getD xs i nothing .b) 0
   value-register = rw (add-zero, register-group) at (group-net xs i 0 h (omega (arith, two-nets)))
 
-  pub mark-register : getD (doubledNets xs) (markNet xs i) nothing ≡ net 2 (markNet xs (getD xs i nothing .a)) 0 0
+  pub mark-register : getD (doubledNets xs) (markNet xs i) nothing ≡ net 2 (markNet xs (getD xs i nothing .a)) (markStart (getD xs i nothing .b)) 0
   mark-register =
       let m : markNet xs i ≡ valueNet xs i + 1 = rw add-one (mark-second xs i (rw two-nets at (value-next xs i h))) in
       rw m (rw register-group at (group-net xs i 1 h (omega (arith, two-nets))))

@@ -1,10 +1,10 @@
 -- A relation of bytes that every gate keeps, shown once by a table of all values and marks of the pins.
--- Its instances: agreement, the order by marks (gates are monotone in marks), and that a gate's byte is 0 to 3.
-use Prim.Native.Nat.{ℕ, _≤_}
+-- Its instances: agreement, the order by marks (gates are monotone in marks), equal values, and that a gate's byte is 0 to 3.
+use Prim.Native.Nat.{ℕ, _%_, _≤_}
 use mathlib.Core.Path.{_≡_, refl}
 use mathlib.Core.Bool.{Bool, true, false, _&&_, _||_, not, cond, Bool·beq}
 use lib.Dec.{T, eqb, lit≤}
-use Rattle.gates.specs.Rules.{value, mark, byte, andMark, orMark, xorMark, muxMark, notByte, andByte, orByte, xorByte, muxByte, gateByte}
+use Rattle.gates.specs.Rules.{bit, value, mark, byte, andMark, orMark, xorMark, muxMark, notByte, andByte, orByte, xorByte, muxByte, gateByte}
 use Rattle.gates.specs.Relations.{AgreeByte, same, low-high, high-low, BelowByte, equal, zero-marked, one-marked}
 
 -- a relation of bytes, as a test of the value and the mark of each
@@ -188,17 +188,47 @@ pub gates-monotone : Gates BelowByte
 unfolding andMark orMark xorMark muxMark
 gates-monotone = gates {r = below} (record { into = below-into; back = below-back; at-not = tt; at-and = tt; at-or = tt; at-xor = tt; at-mux = tt })
 
+-- VALUES: the value of a gate is found from the values of its pins alone
+pub record SameValue (x y : ℕ) : Type 0 where
+  pub values : x % 2 ≡ y % 2
+
+abbrev sameValues : Test
+sameValues v t w u = Bool·beq v w
+
+values-into : {x y : ℕ} → SameValue x y → T (sameValues (value x) (mark x) (value y) (mark y))
+unfolding value
+values-into {y = y} h = rw (h .values) (related-to-itself sameValues tt (value y) (mark y))
+
+byte-value : (v t : Bool) → byte v t % 2 ≡ bit v
+unfolding byte
+byte-value true true = refl
+byte-value true false = refl
+byte-value false true = refl
+byte-value false false = refl
+
+values-back : (v t w u : Bool) → T (sameValues v t w u) → SameValue (byte v t) (byte w u)
+values-back true t true u h = record { values = rw (byte-value true t, byte-value true u) }
+values-back false t false u h = record { values = rw (byte-value false t, byte-value false u) }
+values-back true t false u h = absurd h
+values-back false t true u h = absurd h
+
+pub gates-values : Gates SameValue
+unfolding andMark orMark xorMark muxMark
+gates-values = gates {r = sameValues} (record { into = values-into; back = values-back; at-not = tt; at-and = tt; at-or = tt; at-xor = tt; at-mux = tt })
+
 -- CODES. A property of one byte is a relation that looks at the first byte alone
 abbrev pub Code : ℕ → ℕ → Type 0
 Code x y = x ≤ 3
 
-code-back : (v t w u : Bool) → T true → Code (byte v t) (byte w u)
+pub byte-code : (v t : Bool) → byte v t ≤ 3
 unfolding byte
-code-back true true w u h = lit≤ tt
-code-back true false w u h = lit≤ tt
-code-back false true w u h = lit≤ tt
-code-back false false w u h = lit≤ tt
+byte-code true true = lit≤ tt
+byte-code true false = lit≤ tt
+byte-code false true = lit≤ tt
+byte-code false false = lit≤ tt
 
 pub gates-code : Gates Code
 unfolding andMark orMark xorMark muxMark
-gates-code = gates {r = λ v t w u. true} (record { into = λ h. tt; back = code-back; at-not = tt; at-and = tt; at-or = tt; at-xor = tt; at-mux = tt })
+gates-code =
+    gates {r = λ v t w u. true}
+    (record { into = λ h. tt; back = λ v t w u h. byte-code v t; at-not = tt; at-and = tt; at-or = tt; at-xor = tt; at-mux = tt })

@@ -1,21 +1,21 @@
 -- What the nets of a group come to, past the bytes of the nets before it: the first is the value of the source's byte, the last its mark.
 use Prim.Native.Nat.{ℕ, zero, suc, _+_, _-_, _/_, _%_, _≤_, _<_}
 use mathlib.Core.Path.{_≡_, refl, sym, _∙_}
-use mathlib.Core.List.{List, [], _∷_, _++_, append-assoc, append-nil}
-use mathlib.Core.Bool.{Bool, true, false, _&&_, cond}
+use mathlib.Core.List.{List, [], _∷_, _++_, map, append-assoc, append-nil}
+use mathlib.Core.Bool.{Bool, true, false, _&&_}
 use native.Mathlib.Omega.{arith}
 use native.Mathlib.Nat.{add-zero}
 use borrow.Author.Tests.{ne-eqb, eqb-true, leb-true}
 use lib.Dec.{eqb, leb, lit≤}
 use lib.ListN.{length, getD, length-append, List·getD-append}
 use lib.Seq.{getD-append-add}
-use Rattle.gates.specs.Rules.{value, mark, byte, andMark, orMark, xorMark, muxMark, notByte, andByte, orByte, xorByte, muxByte, gateByte}
+use Rattle.gates.specs.Rules.{bit, value, mark, byte, andMark, orMark, xorMark, muxMark, notByte, andByte, orByte, xorByte, muxByte, gateByte}
 use Rattle.gates.proofs.EachCode.{both, each, each-pair, each-triple}
 use Rattle.image.specs.declared.image.Net.{Net}
 use Rattle.image.specs.Image.{net}
 use Rattle.cycle.specs.Cycle.{Walk, pinByte, netByte, past, walk, registers}
 use Rattle.cycle.specs.Calls.{start, starts}
-use Rattle.groups.specs.Groups.{regGroup, groupOf, split}
+use Rattle.groups.specs.Groups.{markStart, regGroup, groupOf, split}
 
 abbrev pub at : (bytes row state : List ℕ) → Walk
 at b r s = record { bytes = b; row = r; state = s }
@@ -235,11 +235,22 @@ module _ (ws bs : List ℕ) (i v : ℕ) (val mrk : ℕ → ℕ)
         splits = byte-splits _ (codes a);
       }
 
--- the two registers of a REG power up with the value and the mark of its start
-pub reg-starts : (va ta b : ℕ) → starts (regGroup va ta b) ≡ split (start b ∷ [])
-unfolding starts registers start split
-reg-starts va ta b = plain (eqb b 1)
+-- the start of a mark register is a start
+pub mark-start-code : (b : ℕ) → markStart b ≤ 1
+unfolding markStart
+mark-start-code b = bit-code (eqb b 2)
   where
-    plain : (c : Bool) → (cond c 1 0 ∷ 0 ∷ []) ≡ (cond c 1 0 % 2 ∷ cond c 1 0 / 2 ∷ [])
-    plain true = refl
-    plain false = refl
+    bit-code : (t : Bool) → bit t ≤ 1
+    bit-code true = lit≤ tt
+    bit-code false = lit≤ tt
+
+-- the two registers of a REG power up with the value and the mark of its start, as plain values
+pub reg-starts : (va ta b : ℕ) → map (λ x. x % 2) (starts (regGroup va ta b)) ≡ split (start b ∷ [])
+unfolding starts registers start byte markStart split
+reg-starts va ta b = by-tests (eqb b 1) (eqb b 2)
+  where
+    by-tests : (o t : Bool) → (byte o t % 2 ∷ byte (eqb (bit t) 1) (eqb (bit t) 2) % 2 ∷ []) ≡ (byte o t % 2 ∷ byte o t / 2 ∷ [])
+    by-tests true true = refl
+    by-tests true false = refl
+    by-tests false true = refl
+    by-tests false false = refl

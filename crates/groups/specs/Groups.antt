@@ -1,7 +1,9 @@
 -- The group of nets that each net becomes: the first net has its value, the last its mark (the GLIFT paper's shadow logic).
 use Prim.Native.Nat.{ℕ, _+_, _/_, _%_}
 use mathlib.Core.List.{List, [], _∷_}
+use lib.Dec.{eqb}
 use lib.ListN.{getD}
+use Rattle.gates.specs.Rules.{bit}
 use Rattle.gates.specs.Kinds.{CONST, INPUT, REG, NOT, AND, OR, XOR, MUX, OUT}
 use Rattle.image.specs.declared.image.Net.{Net}
 use Rattle.image.specs.Image.{net}
@@ -25,9 +27,13 @@ constGroup a = net CONST a 0 0 ∷ net CONST 0 0 0 ∷ []
 abbrev pub inputGroup : List Net
 inputGroup = net INPUT 0 0 0 ∷ net INPUT 0 0 0 ∷ []
 
--- REG on va with start b; REG on ta with start 0
+-- the start of a mark register, by the start b of its source: 1 where b is 2, for none given, and else 0
+unfoldable pub markStart : ℕ → ℕ
+markStart b = bit (eqb b 2)
+
+-- REG on va with start b; REG on ta, which starts at 1 where b is 2
 abbrev pub regGroup : (va ta b : ℕ) → List Net
-regGroup va ta b = net REG va b 0 ∷ net REG ta 0 0 ∷ []
+regGroup va ta b = net REG va b 0 ∷ net REG ta (markStart b) 0 ∷ []
 
 -- NOT va; OR(ta, ta)
 abbrev pub notGroup : (va ta : ℕ) → List Net

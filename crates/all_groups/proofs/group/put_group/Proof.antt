@@ -4,6 +4,7 @@ use mathlib.Core.Path.{_≡_}
 use native.Mathlib.Omega.{arith}
 use borrow.Author.Needs.{needs}
 use Rattle.groups.specs.Groups.{groupLengths, groupLength}
+use Rattle.groups.proofs.Groups.{mark-start-code}
 use Rattle.large_groups.specs.Room.{Room}
 use Rattle.all_groups.proofs.group.put_group.Statement.{statement}
 use Rattle.all_groups.proofs.group.put_group.Tie as tie
@@ -32,7 +33,13 @@ put-group-spec =
     (tie.spec
     (λ c κs. unfold groupLength groupLengths in let space = room (c .before .before .before) (c .before .match .keys1) in search needs)
     (λ c κs. unfold groupLength groupLengths in let space = room (c .before .before .before) (c .before .match .keys2) in search needs)
-    (λ c κs. unfold groupLength groupLengths in let space = room (c .before .before .before) (c .before .match .keys3) in search needs)
+    (λ c κs. search needs)
+    (λ c κs.
+    unfold groupLength groupLengths in
+    let begin = c .before .before .before .before in
+    let space = room begin (c .before .before .match .keys3) in
+    let low = mark-start-code (begin .args .x .b) in
+    search needs)
     (λ c κs. unfold groupLength groupLengths in let space = room (c .before .before .before) (c .before .match .keys4) in search needs)
     (λ c κs. unfold groupLength groupLengths in let space = room (c .before .before .before) (c .before .match .keys5) in search needs)
     (λ c κs. unfold groupLength groupLengths in let space = room (c .before .before .before) (c .before .match .keys6) in search needs)
@@ -44,7 +51,7 @@ put-group-spec =
     (λ c. search needs)
     (λ c. rw (c .before .before .before .before .match .keys2) (c .before .before .put-two2 .ensures))
     (λ c. search needs)
-    (λ c. rw (c .before .before .before .before .match .keys3) (c .before .before .put-two3 .ensures))
+    (λ c. rw (c .before .before .before .before .before .match .keys3, ← (c .before .before .before .mark-start .ensures)) (c .before .before .put-two3 .ensures))
     (λ c. search needs)
     (λ c. rw (c .before .before .before .before .match .keys4) (c .before .before .put-two4 .ensures))
     (λ c. search needs)

@@ -1,16 +1,21 @@
 -- `cycle_parts::registers::start_byte` meets its contract.
-use borrow.Author.Tests.{eq-eqb, ne-eqb}
+use borrow.Author.Tests.{ne-eqb}
+use Rattle.gates.specs.Rules.{byte}
 use Rattle.cycle.specs.Calls.{start}
 use Rattle.cycle_parts.proofs.registers.start_byte.Statement.{statement}
 use Rattle.cycle_parts.proofs.registers.start_byte.Tie as tie
 
 returns : tie.Need-returns
-unfolding start
-returns c = rw (eq-eqb _ 1 (c .if1 .taken))
+unfolding start byte
+returns c = rw (c .if1 .taken)
 
 returns-2 : tie.Need-returns-2
-unfolding start
-returns-2 c = rw (ne-eqb _ 1 (c .if1 .left))
+unfolding start byte
+returns-2 c = rw (c .if2 .taken)
+
+returns-3 : tie.Need-returns-3
+unfolding start byte
+returns-3 c = rw (ne-eqb _ 1 (c .before .if1 .left), ne-eqb _ 2 (c .if2 .left))
 
 pub start-byte-spec : {M : Type 1} → statement M
-start-byte-spec = tie.close (tie.spec returns returns-2)
+start-byte-spec = tie.close (tie.spec returns returns-2 returns-3)
