@@ -10,7 +10,7 @@ use lib.Dec.{lit≤}
 use lib.ListN.{length, getD, take, drop, length-append, List·getD-append}
 use lib.Seq.{getD-append-add, getD-append-seam, drop-drop}
 use Rattle.gates.specs.Rules.{gateByte}
-use Rattle.gates.proofs.Laws.{Code}
+use Rattle.gates.proofs.Laws.{SameValue, Code}
 use Rattle.image.specs.declared.image.Net.{Net}
 use Rattle.image.specs.Image.{net}
 use Rattle.image.proofs.Pairs.{pairs-append, pairs-getD, pairs-drop}
@@ -19,9 +19,10 @@ use Rattle.net_checking.proofs.Passes.{Passes, is-const, is-input, is-reg, is-n
 use Rattle.checking.proofs.Checked.{AllPass, nil, cons}
 use Rattle.cycle.specs.Cycle.{Walk, pinByte, netByte, past, walk, bytesOf, outputsFrom, registers, clocked, Cycle, cycleOf}
 use Rattle.cycle.specs.Calls.{start, starts}
+use Rattle.cycle.proofs.Cycles.{registers-related}
 use Rattle.cycle.proofs.Walks.{walk-append}
 use Rattle.cycle.proofs.Selections.{Selection, outputs-selected, registers-selected, selection-append}
-use Rattle.groups.specs.Groups.{groupLength, groupLengths, groupOf, split}
+use Rattle.groups.specs.Groups.{groupLength, groupLengths, markStart, groupOf, split}
 use Rattle.groups.proofs.Groups.{at, past-gate, walked-all, comes-length, Splits, byte-splits, const-splits, Bits, Group, not-group, and-group, or-group, xor-group, mux-group, out-group, reg-starts}
 use Rattle.doubled.specs.Doubled.{doubledSize, valueNet, markNet, groupAt, groupsFrom, doubledNets}
 use Rattle.doubled.proofs.Positions.{below-or, Laid, end, next, laid, group-length, value-below, mark-below, mark-second}
@@ -213,7 +214,7 @@ cycle-follows : {xs : List Net} {n : ℕ} (row st : List ℕ) → AllPass n 0 xs
 unfolding doubledNets
 cycle-follows {xs} row st ps e br bs = follow ps e ps (laid xs) (omega arith) (begins xs row st br bs)
 
--- OUTPUTS, CLOCK AND POWER-UP. What is read off the bytes of a cycle, group by group
+-- OUTPUTS AND CLOCK. What is read off the bytes of a cycle, group by group
 module _ {k : ℕ} {l l′ : ℕ → List Net → List ℕ} {b b′ : ℕ → Net → ℕ} (selection : Selection k l b) (selection′ : Selection k l′ b′)
     {n : ℕ} {xs : List Net} (ps : AllPass n 0 xs) (e : n ≡ length xs)
     (group : (i : ℕ) (y : Net) → i < n → Passes n i y → valueNet xs (suc i) ≡ valueNet xs i + groupLength (y .kind)
@@ -234,7 +235,7 @@ module _ {k : ℕ} {l l′ : ℕ → List Net → List ℕ} {b b′ : ℕ → Ne
 -- the two registers of a register take the value and the mark of what it takes
 module _ (f f′ : Net → ℕ) {n : ℕ} (xs : List Net)
     (value : (a b : ℕ) → a < n → f′ (net 2 (valueNet xs a) b 0) ≡ f (net 2 a b 0) % 2)
-    (mark : (a b : ℕ) → a < n → f′ (net 2 (markNet xs a) 0 0) ≡ f (net 2 a b 0) / 2) where
+    (mark : (a b : ℕ) → a < n → f′ (net 2 (markNet xs a) (markStart b) 0) ≡ f (net 2 a b 0) / 2) where
   group-registers : {i : ℕ} {y : Net} → Passes n i y → registers f′ (groupAt xs i y) ≡ split (registers f (y ∷ []))
   unfolding groupOf registers split
   group-registers (is-const h) = refl
@@ -250,14 +251,19 @@ module _ (f f′ : Net → ℕ) {n : ℕ} (xs : List Net)
   registers-split : AllPass n 0 xs → n ≡ length xs → registers f′ (doubledNets xs) ≡ split (registers f xs)
   registers-split ps e = doubled-split (registers-selected f) (registers-selected f′) ps e (λ i y h p m. group-registers p)
 
--- a start is a plain value, and the mark register's start is its mark
-start-splits : (b : ℕ) → (start b ≡ start b % 2) × (start 0 ≡ start b / 2)
+-- POWER-UP: the mark register's start is the mark of the register's, and the value register's has its value, but may be marked itself
+mark-starts : (b : ℕ) → start (markStart b) % 2 ≡ start b / 2
 unfolding starts registers split
-start-splits b = let h = reg-starts 0 0 b in (cc, cc)
+mark-starts b = let h = reg-starts 0 0 b in cc
 
-pub starts-split : {xs : List Net} {n : ℕ} → AllPass n 0 xs → n ≡ length xs → starts (doubledNets xs) ≡ split (starts xs)
+plain-value : (x : ℕ) → SameValue (x % 2) x
+plain-value x = record { values = omega arith }
+
+pub starts-split : {xs : List Net} {n : ℕ} → AllPass n 0 xs → n ≡ length xs → Forall₂ SameValue (split (starts xs)) (starts (doubledNets xs))
 unfolding starts
-starts-split {xs} ps e = registers-split _ _ xs (λ a b h. start-splits b .0) (λ a b h. start-splits b .1) ps e
+starts-split {xs} ps e =
+    let plain = registers-split (λ x. start (x .b)) (λ x. start (x .b) % 2) xs (λ a b h. refl) (λ a b h. mark-starts b) ps e in
+    rw (← plain) (registers-related SameValue (λ x. plain-value (start (x .b))) (doubledNets xs))
 
 -- bytes bs of all n nets of xs, and the bytes ds of their groups
 module _ (xs : List Net) {n : ℕ} (bs ds : List ℕ)
