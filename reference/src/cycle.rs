@@ -1,7 +1,10 @@
 //! The cycle rules of document 01: power-up, the nets, the verdict, the clock.
+//! Power-up follows request L2 of document 02.
 
 use crate::answers::Verdict;
-use crate::gates::{and_byte, const_byte, is_marked, mux_byte, not_byte, or_byte, xor_byte};
+use crate::gates::{
+    and_byte, const_byte, is_marked, mux_byte, net_byte, not_byte, or_byte, xor_byte,
+};
 use crate::netlist::{Net, Netlist, Pin, Policy, Start};
 
 /// What one cycle gives: all net bytes, the verdict, and the state after the
@@ -12,8 +15,8 @@ pub(crate) struct Cycle {
     pub state: Vec<u8>,
 }
 
-/// The state at power-up. Each register takes its start value, or 0 where none
-/// is given, with mark 0.
+/// The state at power-up. Each register takes the byte of its start, in net
+/// order.
 pub(crate) fn power_up_state(netlist: &Netlist) -> Vec<u8> {
     let mut state = Vec::new();
     for net in &netlist.nets {
@@ -24,12 +27,13 @@ pub(crate) fn power_up_state(netlist: &Netlist) -> Vec<u8> {
     state
 }
 
-/// The byte with which a register starts.
+/// The byte with which a register starts. A start value that is given has mark
+/// 0. Where none is given, the register wakes unknown: value 0 and mark 1.
 fn start_byte(start: Start) -> u8 {
     match start {
-        Start::Zero => 0,
-        Start::One => 1,
-        Start::NoneGiven => 0,
+        Start::Zero => net_byte(false, false),
+        Start::One => net_byte(true, false),
+        Start::NoneGiven => net_byte(false, true),
     }
 }
 

@@ -1,4 +1,5 @@
-//! The doubled netlist of document 01.
+//! The doubled netlist of document 01, with the mark registers of request L2 of
+//! document 02.
 //!
 //! Each net becomes a group, groups in net order. The first net of a group is
 //! the value net v, the last the mark net t.
@@ -87,9 +88,23 @@ fn group(net: Net, first: usize, pairs: &[Pair]) -> Vec<Net> {
     }
 }
 
-/// REG on va with start b; REG on ta with start 0.
+/// REG on va with start b; REG on ta with start 1 if b is 2, otherwise 0.
+///
+/// The value register keeps a start of 2, so it wakes marked in the doubled
+/// netlist. Only plain values of the doubled run are compared, and its plain
+/// value is 0, that of the source's register.
 fn reg_group(a: Pair, start: Start) -> Vec<Net> {
-    vec![Net::Reg(a.v, start), Net::Reg(a.t, Start::Zero)]
+    vec![Net::Reg(a.v, start), Net::Reg(a.t, mark_start(start))]
+}
+
+/// The start of the mark register: the mark with which the source's register
+/// powers up.
+fn mark_start(start: Start) -> Start {
+    match start {
+        Start::Zero => Start::Zero,
+        Start::One => Start::Zero,
+        Start::NoneGiven => Start::One,
+    }
 }
 
 /// NOT va; OR(ta, ta).

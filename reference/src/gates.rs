@@ -15,7 +15,7 @@ fn mark(byte: u8) -> bool {
 }
 
 /// The net byte with this value and this mark.
-fn net_byte(value: bool, mark: bool) -> u8 {
+pub(crate) fn net_byte(value: bool, mark: bool) -> u8 {
     u8::from(value) + 2 * u8::from(mark)
 }
 

@@ -53,7 +53,8 @@ pub struct Pin {
     pub net: usize,
 }
 
-/// The start of a register: 0, 1, or 2 for none given.
+/// The start of a register: 0, 1, or 2 for none given. A register with none
+/// given wakes unknown.
 #[derive(Debug, Clone, Copy, PartialEq, Eq)]
 pub enum Start {
     Zero,

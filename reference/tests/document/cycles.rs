@@ -11,10 +11,12 @@ fn stepped(image: &[u8], state: &[u8], row: &[u8], n: usize) -> (Verdict, Vec<u8
     (verdict, nets, state)
 }
 
-// The netlist of the nine kinds, cycle by cycle from power-up (state 0):
+// The netlist of the nine kinds, cycle by cycle from power-up. The register's
+// start is 2, so it wakes with the byte 2:
 //
-// - Row 3: NOT 3 is 2, AND(3, 2) is 2, OR(1, 2) is 1, MUX(2, 2, 0) is 2,
-//   XOR(1, 2) is 3, OUT 3: a flow. The state becomes net 6, which is 2.
+// - Row 3: NOT 3 is 2, AND(3, 2) is 2, OR(1, 2) is 1, MUX(2, 2, 2) chooses a
+//   and is marked because ta is 1, so it is 2; XOR(1, 2) is 3, OUT 3: a flow.
+//   The state becomes net 6, which is 2.
 // - Row 1: NOT 1 is 0, AND(1, 0) is 0, OR(1, 0) is 1, MUX(0, 0, 2) is 0,
 //   XOR(1, 0) is 1, OUT 1: clear. State 0.
 // - Row 2: NOT 2 is 3, AND(2, 3) is 2, OR(1, 2) is 1, MUX(3, 2, 0) is 3,
@@ -26,14 +28,14 @@ fn stepped(image: &[u8], state: &[u8], row: &[u8], n: usize) -> (Verdict, Vec<u8
 fn the_nine_kinds_by_steps() {
     let image = nine_kinds();
     let cycles = [
-        (3, Verdict::Flow(8), [0, 3, 1, 2, 2, 1, 2, 3, 3], 2),
+        (3, Verdict::Flow(8), [2, 3, 1, 2, 2, 1, 2, 3, 3], 2),
         (1, Verdict::Clear, [2, 1, 1, 0, 0, 1, 0, 1, 1], 0),
         (2, Verdict::Flow(8), [0, 2, 1, 3, 2, 1, 3, 2, 2], 3),
         (0, Verdict::Flow(8), [3, 0, 1, 1, 0, 1, 2, 3, 3], 2),
     ];
     let mut state = vec![77];
     power_up(&image, &mut state).unwrap();
-    assert_eq!(state, [0]);
+    assert_eq!(state, [2]);
     for (row, verdict, nets, after) in cycles {
         let got = stepped(&image, &state, &[row], 9);
         assert_eq!(got, (verdict, nets.to_vec(), vec![after]));

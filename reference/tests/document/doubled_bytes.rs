@@ -64,9 +64,9 @@ const DOUBLED_NINE: [u8; 239] = [
     7, 5, 5, 5, 4, 7, 5,
     // XOR, OR; OUT, OUT.
     6, 5, 8, 8,
-    // Net 0 REG(6, none given): 0 REG(22, start 2); 1 REG(28, start 0).
+    // Net 0 REG(6, start 2): 0 REG(22, start 2); 1 REG(28, start 1).
     22, 0, 2, 0, 0, 0,
-    28, 0, 0, 0, 0, 0,
+    28, 0, 1, 0, 0, 0,
     // Net 1 INPUT: 2 INPUT; 3 INPUT.
     0, 0, 0, 0, 0, 0,
     0, 0, 0, 0, 0, 0,

@@ -62,10 +62,11 @@ fn the_largest_doubled_netlist_is_refused() {
     double_refuses(&image, 0, 15, 0);
 }
 
-// The value register keeps the start 0, 1 or 2; the mark register starts at 0.
-// The registers' groups start at 0, 2 and 4, and each holds its own byte.
+// The value register keeps the start 0, 1 or 2. The mark register starts at 1
+// beside a start of 2, otherwise at 0. The registers' groups are at nets 0, 2
+// and 4, and each register holds its own byte.
 #[test]
-fn the_value_register_keeps_its_start() {
+fn the_starts_of_value_and_mark_registers() {
     let mut buffer = [77; 50];
     double(&three_registers(), &mut buffer).unwrap();
     let reg = |net: usize, start: Start| Net::Reg(Pin { net }, start);
@@ -75,7 +76,7 @@ fn the_value_register_keeps_its_start() {
         reg(2, Start::One),
         reg(3, Start::Zero),
         reg(4, Start::NoneGiven),
-        reg(5, Start::Zero),
+        reg(5, Start::One),
     ];
     assert_eq!(check(&buffer).unwrap().nets, expected);
 }

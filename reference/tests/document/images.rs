@@ -81,7 +81,7 @@ pub fn two_inputs() -> Vec<u8> {
     counted(&[(INPUT, 0, 0, 0), (INPUT, 0, 0, 0)])
 }
 
-/// Three registers, each holding its own byte, with starts 0, 1 and none given.
+/// Three registers, each holding its own byte, with starts 0, 1 and 2.
 pub fn three_registers() -> Vec<u8> {
     counted(&[(REG, 0, 0, 0), (REG, 1, 1, 0), (REG, 2, 2, 0)])
 }

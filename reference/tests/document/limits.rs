@@ -101,13 +101,13 @@ fn row_bytes_go_to_3() {
     }
 }
 
-// Power-up ignores what the state buffer held. Starts 0, 1 and none given make
-// the bytes 0, 1 and 0.
+// Power-up ignores what the state buffer held. Starts 0, 1 and 2 make the bytes
+// 0, 1 and 2.
 #[test]
 fn power_up_ignores_the_old_state() {
     for old in [0, 1, 3, 4, 255] {
         let mut state = [old; 3];
         assert_eq!(power_up(&three_registers(), &mut state), Ok(()));
-        assert_eq!(state, [0, 1, 0]);
+        assert_eq!(state, [0, 1, 2]);
     }
 }

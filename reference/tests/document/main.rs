@@ -1,7 +1,8 @@
-//! Tests of the reference against document 01 and request L1 of document 02.
+//! Tests of the reference against document 01 and requests L1 and L2 of document
+//! 02.
 //!
-//! Every expected value is a line of document 01 or is worked out by hand from
-//! it, and then a comment says how.
+//! Every expected value is a line of these documents or is worked out by hand
+//! from them, and then a comment says how.
 
 #![forbid(unsafe_code)]
 
@@ -21,7 +22,10 @@ mod order;
 mod program;
 mod properties;
 mod random;
+mod samples;
 mod sizes;
 mod table;
+mod two_runs;
 mod unchanged;
+mod unknown;
 mod wrong_readings;

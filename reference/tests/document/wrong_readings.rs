@@ -1,5 +1,5 @@
-//! "Readings that would be wrong" in document 01, and wrong readings of request
-//! L1 of document 02, each as a test that the wrong reading fails.
+//! "Readings that would be wrong" in document 01, and wrong readings of requests
+//! L1 and L2 of document 02, each as a test that the wrong reading fails.
 
 use crate::counter::{counter_run, CYCLES};
 use crate::images::*;
@@ -131,4 +131,38 @@ fn the_figures_turn_back_above_8192_doubled_nets() {
     assert_eq!(doubled_size(&counted(&nets)).unwrap().nets, 8192);
     nets.push((AND, 0, 0, 0));
     assert_eq!(doubled_size(&counted(&nets)), refused(15, 0));
+}
+
+/// A register with start 2 that takes the row's byte, and a protected OUT of it.
+fn unknown_then_row() -> Vec<u8> {
+    counted(&[(INPUT, 0, 0, 0), (REG, 0, 2, 0), (OUT, 1, 1, 0)])
+}
+
+// Taken as a trusted 0, a start of 2 would give the output bytes 0, 1 and no
+// flow. Taken as unknown in every cycle, it would give 2, 3. It is unknown until
+// its first clock: cycle 0 shows 2, and cycle 1 the row byte 1 of cycle 0. The
+// state is then the row byte 0 of cycle 1.
+#[test]
+fn an_unknown_register_is_neither_trusted_nor_unknown_for_ever() {
+    let mut state = [77];
+    let mut outputs = [77; 2];
+    power_up(&unknown_then_row(), &mut state).unwrap();
+    let answer = run(&unknown_then_row(), 2, &mut state, &[1, 0], &mut outputs).unwrap();
+    assert_eq!((answer.cycle, answer.verdict), (0, Verdict::Flow(2)));
+    assert_eq!(outputs, [2, 1]);
+    assert_eq!(state, [0]);
+}
+
+// A mark register with start 0 or 2 would show the plain value 0 in cycle 0,
+// where the register is marked. With start 1 it shows 1. The rows v, t of the
+// doubled run are 1, 0 and 0, 0, so the output values v, t are 0, 1 and 1, 0.
+#[test]
+fn the_mark_register_of_an_unknown_one_starts_at_1() {
+    let mut doubled = [77; 50];
+    double(&unknown_then_row(), &mut doubled).unwrap();
+    let mut state = [77; 2];
+    let mut outputs = [77; 4];
+    power_up(&doubled, &mut state).unwrap();
+    run(&doubled, 2, &mut state, &[1, 0, 0, 0], &mut outputs).unwrap();
+    assert_eq!(outputs.map(|byte| byte % 2), [0, 1, 1, 0]);
 }
