@@ -1,11 +1,13 @@
 -- The doubled image: what is read from it, where its groups stand, and what no run on plain rows shows of it.
 use native.Mathlib.Numerals.{add-one}
 use native.Mathlib.Omega.{arith}
+use borrow.Author.Tests.{eq-eqb, ne-eqb}
 use lib.Dec.{lit<}
 use Rattle.image.specs.Image.{sizesOf, netsOf}
 use Rattle.image.proofs.Pairs.{pairs-getD}
 use Rattle.image.proofs.Nets.{length-nets}
 use Rattle.checking.proofs.Checked.{check-none}
+use Rattle.groups.specs.Groups.{markStart}
 use Rattle.doubled.proofs.Positions.{value-end, value-next, group-length, group-net, value-register, mark-register, outs-free}
 use Rattle.doubled.proofs.Sums.{start-zero, mark-end}
 use Rattle.doubling.specs.Doubling.{doubledImage}
@@ -42,11 +44,13 @@ doubled-placed s h =
 
 -- what no run on plain rows shows
 pub doubled-unseen : DoubledUnseen
+unfolding markStart
 doubled-unseen s =
     let e = doubled-nets s in
     let l = length-nets s in
     record {
       outs = rw e (outs-free (netsOf s));
       values = λ i h k. rw e (value-register (netsOf s) i (omega arith) k);
-      marks = λ i h k. rw e (mark-register (netsOf s) i (omega arith) k);
+      marks = λ i h k b. rw e (rw (ne-eqb _ 2 b) at (mark-register (netsOf s) i (omega arith) k));
+      unknown-marks = λ i h k b. rw e (rw (eq-eqb _ 2 b) at (mark-register (netsOf s) i (omega arith) k));
     }

@@ -1,18 +1,20 @@
 -- The groups of one net of each kind, by computation.
 use mathlib.Core.Path.{refl}
-use Rattle.groups.specs.Groups.{groupLengths, groupLength, groupOf}
+use borrow.Author.Tests.{ne-eqb}
+use Rattle.groups.specs.Groups.{groupLengths, groupLength, markStart, groupOf}
 use Rattle.doubled.specs.Doubled.{doubledSize, valueNet, markNet, groupsFrom, doubledNets}
 use Rattle.claims.specs.Groups.{oneOfEach, theirGroups, Groups}
 
 pub groups : Groups
-unfolding groupLengths groupLength doubledSize valueNet markNet groupOf groupsFrom doubledNets oneOfEach theirGroups
+unfolding groupLengths groupLength markStart doubledSize valueNet markNet groupOf groupsFrom doubledNets oneOfEach theirGroups
 groups =
     record {
       each = λ xs i x.
           record {
             const = λ e. rw e;
             input = λ e. rw e;
-            reg = λ e. rw e;
+            reg = λ e b. rw (e, ne-eqb _ 2 b);
+            unknown-reg = λ e b. rw (e, b);
             not = λ e. rw e;
             and = λ e. rw e;
             or = λ e. rw e;

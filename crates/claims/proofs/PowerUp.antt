@@ -7,7 +7,7 @@ use Rattle.gates.specs.Kinds.{REG}
 use Rattle.image.specs.Image.{sizesOf}
 use Rattle.checking.proofs.Checked.{Checked, check-none}
 use Rattle.cycle.specs.Calls.{stateLength, start, starts, powerUpOf}
-use Rattle.cycle.proofs.Calls.{starts-state, powered-up}
+use Rattle.cycle.proofs.Calls.{start-bytes, starts-state, powered-up}
 use Rattle.cycle.proofs.Selections.{registers-selected}
 use Rattle.claims.specs.NetBytes.{netOf, Counted}
 use Rattle.claims.specs.PowerUp.{PowerUpStarts}
@@ -19,14 +19,13 @@ unfolding starts
 register {s} st c l i h e = rw (powered-up s st c l) (selected i h (registers-selected (λ x. start (x .b))) e)
 
 pub power-up-starts : PowerUpStarts
-unfolding start
 power-up-starts s st h l =
     let c = check-none s .0 h in
     let e = powered-up s st c l in
     record {
       done = rw e;
       size = rw e (starts-state c .size);
-      start-0 = λ i m k b. rw b at (register st c l i m k);
-      start-1 = λ i m k b. rw b at (register st c l i m k);
-      none-given = λ i m k b. rw b at (register st c l i m k);
+      start-0 = λ i m k b. rw (b, start-bytes .0) at (register st c l i m k);
+      start-1 = λ i m k b. rw (b, start-bytes .1) at (register st c l i m k);
+      none-given = λ i m k b. rw (b, start-bytes .2) at (register st c l i m k);
     }

@@ -20,8 +20,8 @@ use Rattle.cycle.proofs.Calls.{step-none, run-none, starts-state, powered-up}
 use Rattle.groups.specs.Groups.{split}
 use Rattle.doubling.proofs.Simulation.{split-length}
 use Rattle.claims.specs.History.{Call, refusalOf, stepped, ran, callResult, history, cyclesIn, Finished}
-use Rattle.claims.specs.Pairing.{shown, Shows}
-use Rattle.claims.specs.TwoRun.{Matched, steps, runs, SameCycle, SameCall, turned-back, finished, SameCalls, SameShown, Demand3}
+use Rattle.claims.specs.Pairing.{shown, Shows, AllPaired}
+use Rattle.claims.specs.TwoRun.{Matched, steps, runs, SameCycle, SameCall, turned-back, finished, SameCalls, SameShown, AllSameDoubled, Demand3}
 use Rattle.claims.proofs.History.{turns-back, made-refused, made-step, made-run, made}
 use Rattle.claims.proofs.Splitting.{split-value, split-mark}
 use Rattle.claims.proofs.Pairing.{demand2}
@@ -149,6 +149,19 @@ same-shown {s} c d x y u v p q r =
       values = λ j l e. rw (p .pairs, q .pairs) (values-split j a (rw (p .pairs) at e));
     }
 
+-- two lists that match, and their accepted calls made again
+both-doubled : {s d st st′ u u′ : List ℕ} {cs ds : List Call} → Checked s → Forall₂ Matched cs ds → Agree st st′ → AllPaired s d st u → AllPaired s d st′ u′
+    → AllSameDoubled s d st st′ u u′ cs ds
+both-doubled {s} {d} {cs = cs} {ds} c m q x y cs′ ds′ p p′ =
+    let l = x cs cs′ p in
+    let r = y ds ds′ p′ in
+    record {
+      finished = (l .finished, r .finished);
+      made = l .made-again;
+      made′ = r .made-again;
+      shown = pairs-square (same-shown c d) (l .cycles) (r .cycles) (same-cycles s q m);
+    }
+
 pub demand3 : Demand3
 demand3 s h cs ds m =
     let c = check-none s .0 h in
@@ -156,10 +169,14 @@ demand3 s h cs ds m =
       powered-up = λ a l. (rw (powered-up s a c l), rw (powered-up s a c l) (starts-state c .size));
       calls = λ st st′ q. same-calls s q m;
       from-power-up = λ a b l k. same-calls s (powered-agree c a b l k) m;
-      doubled = λ few buf g a b a′ b′ l k l′ k′ cs′ ds′ p q.
+      doubled = λ few buf g.
           let d = demand2 s h few buf g in
-          let x = d .paired a a′ l l′ cs cs′ p in
-          let y = d .paired b b′ k k′ ds ds′ q in
-          let shown = pairs-square (same-shown c _) (x .cycles) (y .cycles) (same-cycles s (powered-agree c a b l k) m) in
-          (d .written, x .powered-up .1, y .powered-up .1, x .finished, y .finished, x .made-again, y .made-again, shown);
+          record {
+            written = d .written;
+            calls = λ st st′ q. both-doubled c m q (d .from-state st) (d .from-state st′);
+            from-power-up = λ a b a′ b′ l k l′ k′.
+                let x = d .from-power-up a a′ l l′ in
+                let y = d .from-power-up b b′ k k′ in
+                (x .1, y .1, both-doubled c m (powered-agree c a b l k) (x .2) (y .2));
+          };
     }

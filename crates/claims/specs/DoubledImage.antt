@@ -44,15 +44,19 @@ pub record Placed (s : List ℕ) : Type 0 where
 abbrev pub DoubledPlaced : Type 0
 DoubledPlaced = (s : List ℕ) → checkRefusal s ≡ none → Placed s
 
--- what no run on plain rows shows, the policy of an OUT and a start that is not given: every OUT of the doubled netlist is free; of a register's two, the first keeps its start, and the second starts with 0
+-- what no run on plain rows shows: every OUT of the doubled netlist is free; of a register's two, the first keeps its start, also where that is 2, and the second
+-- starts at 0, or at 1 where the register has no start
 pub record Unseen (s : List ℕ) : Type 0 where
   pub outs : (j : ℕ) → netOf (doubledImage s) j .kind ≡ OUT → netOf (doubledImage s) j .b ≡ 0
   pub values :
       (i : ℕ) → i < sizesOf s .nets → netOf s i .kind ≡ REG
       → netOf (doubledImage s) (valueNet (netsOf s) i) ≡ net REG (valueNet (netsOf s) (netOf s i .a)) (netOf s i .b) 0
   pub marks :
-      (i : ℕ) → i < sizesOf s .nets → netOf s i .kind ≡ REG
+      (i : ℕ) → i < sizesOf s .nets → netOf s i .kind ≡ REG → (netOf s i .b ≡ 2 → ⊥)
       → netOf (doubledImage s) (markNet (netsOf s) i) ≡ net REG (markNet (netsOf s) (netOf s i .a)) 0 0
+  pub unknown-marks :
+      (i : ℕ) → i < sizesOf s .nets → netOf s i .kind ≡ REG → netOf s i .b ≡ 2
+      → netOf (doubledImage s) (markNet (netsOf s) i) ≡ net REG (markNet (netsOf s) (netOf s i .a)) 1 0
 
 -- proved as `doubled-unseen`
 abbrev pub DoubledUnseen : Type 0

@@ -28,8 +28,8 @@ theirGroups =
     (net CONST 1 0 0 ∷ net CONST 0 0 0 ∷ [])
     -- 2 INPUT: INPUT; INPUT
     ++ (net INPUT 0 0 0 ∷ net INPUT 0 0 0 ∷ [])
-    -- 4 REG: REG on va with start b; REG on ta with start 0
-    ++ (net REG 24 2 0 ∷ net REG 30 0 0 ∷ [])
+    -- 4 REG: REG on va with start b; REG on ta, which starts at 1, since b is 2
+    ++ (net REG 24 2 0 ∷ net REG 30 1 0 ∷ [])
     -- 6 NOT: NOT va; OR(ta, ta)
     ++ (net NOT 2 0 0 ∷ net OR 3 3 0 ∷ [])
     -- 8 AND: AND(va, vb); p = AND(ta, vb); q = AND(tb, va); r = AND(ta, tb); s = OR(p, q); OR(s, r)
@@ -70,7 +70,8 @@ module _ (xs : List Net) (i : ℕ) (x : Net) where
   pub record GroupNets : Type 0 where
     pub const : x .kind ≡ 0 → groupAt xs i x ≡ net 0 (x .a) 0 0 ∷ net 0 0 0 0 ∷ []
     pub input : x .kind ≡ 1 → groupAt xs i x ≡ net 1 0 0 0 ∷ net 1 0 0 0 ∷ []
-    pub reg : x .kind ≡ 2 → groupAt xs i x ≡ net 2 va (x .b) 0 ∷ net 2 ta 0 0 ∷ []
+    pub reg : x .kind ≡ 2 → (x .b ≡ 2 → ⊥) → groupAt xs i x ≡ net 2 va (x .b) 0 ∷ net 2 ta 0 0 ∷ []
+    pub unknown-reg : x .kind ≡ 2 → x .b ≡ 2 → groupAt xs i x ≡ net 2 va 2 0 ∷ net 2 ta 1 0 ∷ []
     pub not : x .kind ≡ 3 → groupAt xs i x ≡ net 3 va 0 0 ∷ net 5 ta ta 0 ∷ []
     pub and : x .kind ≡ 4 → groupAt xs i x ≡ net 4 va vb 0 ∷ net 4 ta vb 0 ∷ net 4 tb va 0 ∷ net 4 ta tb 0 ∷ net 5 (v + 1) (v + 2) 0 ∷ net 5 (v + 4) (v + 3) 0 ∷ []
     pub or : x .kind ≡ 5 → groupAt xs i x

@@ -26,22 +26,26 @@ shown s o = map (λ x. x % 2) (outputsFrom 0 (netsOf s) (o .nets))
 pub record Shows (s d : List ℕ) (o o′ : Stepped) : Type 0 where
   pub pairs : shown d o′ ≡ split (outputsFrom 0 (netsOf s) (o .nets))
 
--- the calls cs on s, and cs′ on d, each from power-up, where the states held the bytes a and b before: what they give, ms and ns, with all cycles of each list
-pub record Paired (s d a b : List ℕ) (cs cs′ : List Call) : Type 0 where
-  pub powered-up : (powerUpOf s a .refusal ≡ none) × (powerUpOf d b .refusal ≡ none)
-  pub made : let ms = history s (powerUpOf s a .state) cs in AllMade s (powerUpOf s a .state) cs ms (cyclesIn ms)
-  pub made-again : let ns = history d (powerUpOf d b .state) cs′ in AllMade d (powerUpOf d b .state) cs′ ns (cyclesIn ns)
-  pub finished : AllFinished (history d (powerUpOf d b .state) cs′)
-  pub cycles : Forall₂ (Shows s d) (cyclesIn (history s (powerUpOf s a .state) cs)) (cyclesIn (history d (powerUpOf d b .state) cs′))
+-- the calls cs on s from the state st, and cs′ on d from the state st′: what they give, with all cycles of each list
+pub record Paired (s d st st′ : List ℕ) (cs cs′ : List Call) : Type 0 where
+  pub made : let ms = history s st cs in AllMade s st cs ms (cyclesIn ms)
+  pub made-again : let ns = history d st′ cs′ in AllMade d st′ cs′ ns (cyclesIn ns)
+  pub finished : AllFinished (history d st′ cs′)
+  pub cycles : Forall₂ (Shows s d) (cyclesIn (history s st cs)) (cyclesIn (history d st′ cs′))
 
--- what doubling writes into buf, beside its source
+-- the accepted calls of every list on s from st, made again on d from st′
+abbrev pub AllPaired : (s d st st′ : List ℕ) → Type 0
+AllPaired s d st st′ = (cs cs′ : List Call) → Forall₂ (Again d) (accepted s st cs) cs′ → Paired s d st st′ cs cs′
+
+-- what doubling writes into buf, beside its source: from any state, where "register j's value and mark then start the doubled registers 2j and 2j + 1, in net
+-- order" (on a list of bytes that is no state all calls are refused, and none is made again); and each from its own power-up, where the states held the bytes a and b before
 pub record DoublingPairs (s buf : List ℕ) : Type 0 where
   pub written : doubleOf s buf .refusal ≡ none
-  pub paired :
+  pub from-state : let d = doubleOf s buf .buffer in (st : List ℕ) → AllPaired s d st (split st)
+  pub from-power-up :
       let d = doubleOf s buf .buffer in
       (a b : List ℕ) → length a ≡ stateLength (sizesOf s) → length b ≡ stateLength (sizesOf d)
-      → (cs cs′ : List Call) → Forall₂ (Again d) (accepted s (powerUpOf s a .state) cs) cs′
-      → Paired s d a b cs cs′
+      → (powerUpOf s a .refusal ≡ none) × (powerUpOf d b .refusal ≡ none) × AllPaired s d (powerUpOf s a .state) (powerUpOf d b .state)
 
 -- for every accepted image whose doubled netlist fits the size limit, and every buffer of its exact length; proved as `demand2`
 abbrev pub Demand2 : Type 0

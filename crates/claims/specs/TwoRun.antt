@@ -9,6 +9,7 @@ use Rattle.image.specs.Image.{sizesOf, netsOf}
 use Rattle.refusals.specs.declared.answer.Refusal.{Refusal}
 use Rattle.checking.specs.Check.{checkRefusal}
 use Rattle.cycle.specs.Calls.{stateLength, Stepped, powerUpOf}
+use Rattle.groups.specs.Groups.{split}
 use Rattle.doubled.specs.Doubled.{doubledSize}
 use Rattle.doubling.specs.Doubling.{doubleOf}
 use Rattle.claims.specs.History.{Call, step, run, CallResult, history, accepted, cyclesIn, TurnedBack, Finished, AllFinished, Made, AllMade}
@@ -49,8 +50,32 @@ pub record SameShown (s d : List ℕ) (o o′ : Stepped) : Type 0 where
       (j : ℕ) → j < sizesOf s .outputs → getD (shown d o) (2 * j + 1) 0 ≡ 0
       → getD (shown d o) (2 * j) 0 ≡ getD (shown d o′) (2 * j) 0
 
--- from any two states that agree; from power-up, where the two lists' states held the bytes a and b before; and, where doubling doesn't draw 15,
--- on the doubled image that it writes into buf, from its own power-up of states that held a′ and b′
+-- the calls cs on the doubled image d of s from the state st, and ds from the state st′: none is refused, and in each cycle both show the same
+pub record SameDoubled (s d st st′ : List ℕ) (cs ds : List Call) : Type 0 where
+  pub finished : AllFinished (history d st cs) × AllFinished (history d st′ ds)
+  pub made : let ms = history d st cs in AllMade d st cs ms (cyclesIn ms)
+  pub made′ : let ns = history d st′ ds in AllMade d st′ ds ns (cyclesIn ns)
+  pub shown : Forall₂ (SameShown s d) (cyclesIn (history d st cs)) (cyclesIn (history d st′ ds))
+
+-- where the lists cs and ds are made on s from st and st′, their accepted calls made again on d from u and u′
+abbrev pub AllSameDoubled : (s d st st′ u u′ : List ℕ) (cs ds : List Call) → Type 0
+AllSameDoubled s d st st′ u u′ cs ds =
+    (cs′ ds′ : List Call) → Forall₂ (Again d) (accepted s st cs) cs′ → Forall₂ (Again d) (accepted s st′ ds) ds′ → SameDoubled s d u u′ cs′ ds′
+
+-- the two lists on s, and on the doubled image that doubling writes into buf
+pub record DoubledTwoRun (s buf : List ℕ) (cs ds : List Call) : Type 0 where
+  pub written : doubleOf s buf .refusal ≡ none
+  -- from any two states that agree: "register j's value and mark then start the doubled registers 2j and 2j + 1, in net order"
+  pub calls : let d = doubleOf s buf .buffer in (st st′ : List ℕ) → Agree st st′ → AllSameDoubled s d st st′ (split st) (split st′) cs ds
+  -- from its own power-up, of states that held a′ and b′ before
+  pub from-power-up :
+      let d = doubleOf s buf .buffer in
+      (a b a′ b′ : List ℕ) → length a ≡ stateLength (sizesOf s) → length b ≡ stateLength (sizesOf s)
+      → length a′ ≡ stateLength (sizesOf d) → length b′ ≡ stateLength (sizesOf d)
+      → (powerUpOf d a′ .refusal ≡ none) × (powerUpOf d b′ .refusal ≡ none)
+      × AllSameDoubled s d (powerUpOf s a .state) (powerUpOf s b .state) (powerUpOf d a′ .state) (powerUpOf d b′ .state) cs ds
+
+-- from any two states that agree; from power-up, where the two lists' states held the bytes a and b before; and both again where doubling doesn't draw 15
 pub record TwoRun (s : List ℕ) (cs ds : List Call) : Type 0 where
   pub powered-up :
       (a : List ℕ) → length a ≡ stateLength (sizesOf s)
@@ -59,20 +84,7 @@ pub record TwoRun (s : List ℕ) (cs ds : List Call) : Type 0 where
   pub from-power-up :
       (a b : List ℕ) → length a ≡ stateLength (sizesOf s) → length b ≡ stateLength (sizesOf s)
       → SameCalls s (powerUpOf s a .state) (powerUpOf s b .state) cs ds
-  pub doubled :
-      doubledSize (netsOf s) ≤ 8192 → (buf : List ℕ) → length buf ≡ 8 + 7 * doubledSize (netsOf s)
-      → let d = doubleOf s buf .buffer in
-      (a b a′ b′ : List ℕ) → length a ≡ stateLength (sizesOf s) → length b ≡ stateLength (sizesOf s)
-      → length a′ ≡ stateLength (sizesOf d) → length b′ ≡ stateLength (sizesOf d)
-      → (cs′ ds′ : List Call)
-      → Forall₂ (Again d) (accepted s (powerUpOf s a .state) cs) cs′
-      → Forall₂ (Again d) (accepted s (powerUpOf s b .state) ds) ds′
-      → let ms = history d (powerUpOf d a′ .state) cs′ in
-      let ns = history d (powerUpOf d b′ .state) ds′ in
-      (doubleOf s buf .refusal ≡ none) × (powerUpOf d a′ .refusal ≡ none) × (powerUpOf d b′ .refusal ≡ none)
-      × AllFinished ms × AllFinished ns
-      × AllMade d (powerUpOf d a′ .state) cs′ ms (cyclesIn ms) × AllMade d (powerUpOf d b′ .state) ds′ ns (cyclesIn ns)
-      × Forall₂ (SameShown s d) (cyclesIn ms) (cyclesIn ns)
+  pub doubled : doubledSize (netsOf s) ≤ 8192 → (buf : List ℕ) → length buf ≡ 8 + 7 * doubledSize (netsOf s) → DoubledTwoRun s buf cs ds
 
 -- proved as `demand3`
 abbrev pub Demand3 : Type 0
