@@ -5,7 +5,6 @@ use native.Mathlib.Omega.{arith}
 use mathlib.Core.Path.{_≡_, refl, ap}
 use mathlib.Core.List.{List, [], _∷_, _++_, map, Forall₂·nil, Forall₂·cons}
 use mathlib.Core.Bool.{Bool, true, false}
-use mathlib.Core.Option.{none}
 use borrow.Author.Tests.{eqb-false}
 use lib.ListN.{length, getD, take, drop, List·getD-append}
 use lib.Seq.{getD-append-add}
@@ -17,7 +16,7 @@ use Rattle.image.proofs.Pairs.{pairs-getD}
 use Rattle.image.proofs.Nets.{length-nets}
 use Rattle.checking.proofs.Checked.{check-none}
 use Rattle.cycle.specs.Cycle.{Verdict, clear, cycleOf, cyclesOf, outputsOf, FirstFlow, firstFlow}
-use Rattle.cycle.specs.Calls.{done, asRun, powerUpOf, runOf}
+use Rattle.cycle.specs.Calls.{done, asRun, runOf}
 use Rattle.cycle.proofs.Calls.{Ready, run-none, run-accepted, first-ready, rest-ready}
 use Rattle.claims.specs.NetBytes.{netOf, placeOf}
 use Rattle.claims.specs.Verdicts as judged
@@ -28,8 +27,8 @@ use Rattle.claims.specs.InBytes.{clearAfter, ClearStays}
 use Rattle.claims.proofs.NetBytes.{net-bytes}
 use Rattle.claims.proofs.Verdicts.{verdicts, first-flows}
 use Rattle.claims.proofs.TwoRun.{demand3}
-use Rattle.claims.proofs.TwoSteps.{marks-agree}
-use Rattle.claims.proofs.OneRun.{powered, run-taken}
+use Rattle.claims.proofs.TwoSteps.{marks-agree, agree-marks}
+use Rattle.claims.proofs.OneRun.{run-taken}
 use Rattle.claims.proofs.OneCall.{same-one}
 
 -- OUTPUTS that agree are equal where the first is unmarked
@@ -111,19 +110,17 @@ run-unmarked s st k rows outputs h c i m l out protected =
 
 pub clear-stays : ClearStays
 unfolding callResult
-clear-stays s a a′ k rows rows′ outputs outputs′ p p′ rs l h =
-    let st = powerUpOf s a .state in
-    let st′ = powerUpOf s a′ .state in
-    let c = powered s a p in
+clear-stays s st st′ k rows rows′ outputs outputs′ q p l h =
     let r = run-none s st k rows outputs .0 (run-taken s st k rows outputs h) .0 in
-    let matched = Forall₂·cons (Matched.runs {k = k} (marks-agree rows′ (r .codes) rs) l) Forall₂·nil in
-    let two = demand3 s (check-none s .1 (c .0)) (run k rows outputs ∷ []) (run k rows′ outputs′ ∷ []) matched in
+    let matched = Forall₂·cons (Matched.runs {k = k} (marks-agree rows′ (r .codes) p) l) Forall₂·nil in
+    let two = demand3 s (check-none s .1 (r .image)) (run k rows outputs ∷ []) (run k rows′ outputs′ ∷ []) matched in
     let ends : Finished (ran (runOf s st k rows outputs .answer)) = rw h Finished.a-run in
-    let t = same-one (two .from-power-up a a′ (c .1) (powered s a′ p′ .1)) ends in
+    let t = same-one (two .calls st st′ (marks-agree st′ (r .state .codes) q)) ends in
     let e = t .answer in
     record {
       answer = cc;
       protected = λ d i m n out q.
           let u = run-unmarked s st k rows outputs h d i m n out q in
           (u, unmarked-equal (pairs-getD (d * sizesOf s .outputs + placeOf OUT s i) 0 same (t .buffer)) u);
+      state = agree-marks (t .state);
     }

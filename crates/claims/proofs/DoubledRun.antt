@@ -9,7 +9,7 @@ use Rattle.image.specs.Image.{sizesOf, netsOf}
 use Rattle.refusals.specs.declared.answer.Refusal.{Refusal}
 use Rattle.checking.proofs.Checked.{check-none}
 use Rattle.cycle.specs.Cycle.{FirstFlow, outputsFrom}
-use Rattle.cycle.specs.Calls.{Answer, done, refused, Stepped, powerUpOf, runOf, runRefusal}
+use Rattle.cycle.specs.Calls.{Answer, done, refused, Stepped, runOf, runRefusal}
 use Rattle.cycle.proofs.Calls.{either-way, run-none}
 use Rattle.groups.specs.Groups.{split}
 use Rattle.doubling.specs.Doubling.{doubleRefusal, doubleOf}
@@ -17,8 +17,8 @@ use Rattle.doubling.proofs.Checks.{doubled-sizes, double-none, double-refused, 
 use Rattle.doubling.proofs.Simulation.{split-append}
 use Rattle.claims.specs.Steps.{stepsOf, outputsIn}
 use Rattle.claims.specs.History.{run, ran, CallAnswer, CallResult, refusalOf, accepted, Finished, AllFinished, Made, AllMade}
-use Rattle.claims.specs.Pairing.{Again, run-again, shown, Shows, Paired}
-use Rattle.claims.specs.InBytes.{fromPowerUp, ShowsInTwo, DoubledShows}
+use Rattle.claims.specs.Pairing.{Again, run-again, shown, Shows, Paired, AllPaired}
+use Rattle.claims.specs.InBytes.{ShowsInTwo, RunsShow, DoubledShows}
 use Rattle.claims.proofs.Unchanged.{not-some}
 use Rattle.claims.proofs.History.{accepted-none}
 use Rattle.claims.proofs.Splitting.{split-value, split-mark, in-two}
@@ -71,41 +71,48 @@ plain-at : (xs : List ℕ) {ys : List ℕ} → map (λ x. x % 2) xs ≡ ys → (
 plain-at xs e j = sym (List·getD-map (λ x. x % 2) xs j 0) ∙ ap (λ ys. getD ys j 0) e
 
 -- demand 2 of one run, on any image d that shows the same
-shows-run : (s d a a′ : List ℕ) (k : ℕ) (rows outputs outputs′ : List ℕ) (f : FirstFlow)
-    → Paired s d a a′ (run k rows outputs ∷ []) (run k (split rows) outputs′ ∷ []) → fromPowerUp s a k rows outputs .answer ≡ done f
-    → ShowsInTwo (fromPowerUp s a k rows outputs) (fromPowerUp d a′ k (split rows) outputs′)
-shows-run s d a a′ k rows outputs outputs′ f p h =
-    let again = one-finished d (powerUpOf d a′ .state) k (split rows) outputs′ (p .made-again) (p .finished) in
-    let m = one-made s (powerUpOf s a .state) k rows outputs f (p .made) h in
-    let n = one-made d (powerUpOf d a′ .state) k (split rows) outputs′ (again .first) (p .made-again) (again .is) in
+shows-run : (s d st st′ : List ℕ) (k : ℕ) (rows outputs outputs′ : List ℕ) (f : FirstFlow)
+    → Paired s d st st′ (run k rows outputs ∷ []) (run k (split rows) outputs′ ∷ []) → runOf s st k rows outputs .answer ≡ done f
+    → ShowsInTwo (runOf s st k rows outputs) (runOf d st′ k (split rows) outputs′)
+shows-run s d st st′ k rows outputs outputs′ f p h =
+    let again = one-finished d st′ k (split rows) outputs′ (p .made-again) (p .finished) in
+    let m = one-made s st k rows outputs f (p .made) h in
+    let n = one-made d st′ k (split rows) outputs′ (again .first) (p .made-again) (again .is) in
     let all = outputs-shown s d (in-one (rw (m .cycles, n .cycles) at (p .cycles))) in
-    let e : map (λ x. x % 2) (fromPowerUp d a′ k (split rows) outputs′ .outputs) ≡ split (fromPowerUp s a k rows outputs .outputs) = rw (m .outs, n .outs) all in
-    let byte = plain-at (fromPowerUp d a′ k (split rows) outputs′ .outputs) e in
+    let e : map (λ x. x % 2) (runOf d st′ k (split rows) outputs′ .outputs) ≡ split (runOf s st k rows outputs .outputs) = rw (m .outs, n .outs) all in
+    let byte = plain-at (runOf d st′ k (split rows) outputs′ .outputs) e in
     record {
       first = again .first;
       answer = again .is;
-      values = λ j l. byte (2 * j) ∙ split-value (fromPowerUp s a k rows outputs .outputs) j;
-      marks = λ j l. byte (2 * j + 1) ∙ split-mark (fromPowerUp s a k rows outputs .outputs) j;
+      values = λ j l. byte (2 * j) ∙ split-value (runOf s st k rows outputs .outputs) j;
+      marks = λ j l. byte (2 * j + 1) ∙ split-mark (runOf s st k rows outputs .outputs) j;
     }
-
--- DOUBLING that is not refused
-doubled : (s buf : List ℕ) → doubleOf s buf .refusal ≡ none → doubleRefusal s buf ≡ none
-doubled s buf h = either-way (doubleRefusal s buf) (λ e. e) (λ r e. absurd (not-some (sym (rw (double-refused s buf r e) at h))))
 
 the-run : (s st d : List ℕ) (k : ℕ) (rows outputs outputs′ : List ℕ) → runRefusal s st k rows outputs ≡ none → length outputs′ ≡ k * sizesOf d .outputs
     → Forall₂ (Again d) (accepted s st (run k rows outputs ∷ [])) (run k (split rows) outputs′ ∷ [])
 unfolding refusalOf accepted
 the-run s st d k rows outputs outputs′ h l = rw (accepted-none s st (run k rows outputs) [] h) (Forall₂·cons (run-again l) Forall₂·nil)
 
-pub doubled-shows : DoubledShows
-doubled-shows s buf w a a′ k rows rows′ outputs outputs′ f p p′ t l h =
-    let st = powerUpOf s a .state in
-    let g = doubled s buf w in
-    let n = double-none s buf .0 g in
-    let d = doubleOf s buf .buffer in
+runs-show : {s d st st′ : List ℕ} → sizesOf d .outputs ≡ 2 * sizesOf s .outputs → AllPaired s d st st′ → RunsShow s d st st′
+runs-show {s} {d} {st} {st′} e again k rows rows′ outputs outputs′ f t l h =
     let r = run-taken s st k rows outputs h in
     let o = run-none s st k rows outputs .0 r .2 in
     let twice : k * (2 * sizesOf s .outputs) ≡ 2 * (k * sizesOf s .outputs) = omega arith in
-    let size : length outputs′ ≡ k * sizesOf d .outputs = rw (double-accepted s buf g, doubled-sizes s) (l ∙ ap (λ m. 2 * m) o ∙ sym twice) in
-    let again = demand2 s (check-none s .1 (n .0)) (n .1) buf (n .2) .paired a a′ (powered s a p .1) (powered d a′ p′ .1) in
-    rw (in-two rows rows′ t) (shows-run s d a a′ k rows outputs outputs′ f (again _ _ (the-run s st d k rows outputs outputs′ r size)) h)
+    let size : length outputs′ ≡ k * sizesOf d .outputs = rw e (l ∙ ap (λ m. 2 * m) o ∙ sym twice) in
+    rw (in-two rows rows′ t) (shows-run s d st st′ k rows outputs outputs′ f (again _ _ (the-run s st d k rows outputs outputs′ r size)) h)
+
+-- DOUBLING that is not refused
+doubled : (s buf : List ℕ) → doubleOf s buf .refusal ≡ none → doubleRefusal s buf ≡ none
+doubled s buf h = either-way (doubleRefusal s buf) (λ e. e) (λ r e. absurd (not-some (sym (rw (double-refused s buf r e) at h))))
+
+pub doubled-shows : DoubledShows
+doubled-shows s buf w =
+    let g = doubled s buf w in
+    let n = double-none s buf .0 g in
+    let d = doubleOf s buf .buffer in
+    let pairs = demand2 s (check-none s .1 (n .0)) (n .1) buf (n .2) in
+    let outputs : sizesOf d .outputs ≡ 2 * sizesOf s .outputs = rw (double-accepted s buf g, doubled-sizes s) in
+    record {
+      from-power-up = λ a a′ p p′. runs-show outputs (pairs .from-power-up a a′ (powered s a p .1) (powered d a′ p′ .1) .2);
+      from-state = λ st st′ t. rw (in-two st st′ t) (runs-show outputs (pairs .from-state st));
+    }

@@ -22,5 +22,6 @@ pub mod OneCall
 pub mod TwoSteps
 pub mod OneRun
 pub mod ClearRun
+pub mod UnknownStart
 pub mod DoubledRun
 pub mod Promised

@@ -22,12 +22,14 @@ use Rattle.claims.proofs.Pairing
 use Rattle.claims.proofs.TwoRun
 use Rattle.claims.proofs.TwoSteps
 use Rattle.claims.proofs.ClearRun
+use Rattle.claims.proofs.UnknownStart
 use Rattle.claims.proofs.DoubledRun
 
 pub promised : Promised
 promised =
     record {
       clear-stays = ClearRun.clear-stays;
+      unknown-start = UnknownStart.unknown-start;
       steps-agree = TwoSteps.steps-agree;
       doubled-shows = DoubledRun.doubled-shows;
       terms = Terms.terms;

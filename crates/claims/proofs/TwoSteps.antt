@@ -1,12 +1,14 @@
 -- Two steps that are lent states and rows which differ at most in the values of marked bytes.
-use Prim.Native.Nat.{ℕ, suc, _/_}
+use Prim.Native.Nat.{ℕ, _≤_}
 use native.Mathlib.Omega.{arith}
 use mathlib.Core.Path.{_≡_, sym}
 use mathlib.Core.List.{List, [], _∷_, Forall₂·nil, Forall₂·cons}
 use mathlib.Core.Option.{none}
+use lib.Dec.{lit≤}
+use lib.ListN.{getD}
 use Rattle.gates.specs.Relations.{same, Agree}
 use Rattle.gates.proofs.Meaning.{agree-means, relations-mean}
-use Rattle.image.proofs.Pairs.{pairs-getD, pairs-length}
+use Rattle.image.proofs.Pairs.{pairs-getD, pairs-length, pairs-places}
 use Rattle.refusals.proofs.Refusals.{Codes}
 use Rattle.checking.proofs.Checked.{check-none}
 use Rattle.cycle.specs.Cycle.{Verdict}
@@ -21,17 +23,14 @@ use Rattle.claims.proofs.OneCall.{same-one}
 
 -- BYTES that differ at most in the values of marked ones are bytes that agree, where they are codes
 pub marks-agree : {xs : List ℕ} (ys : List ℕ) → Codes xs → SameMarks xs ys → Agree xs ys
-marks-agree [] Forall₂·nil h = Forall₂·nil
-marks-agree (y ∷ ys) Forall₂·nil h = absurd (omega (arith, h .size))
-marks-agree [] (Forall₂·cons c cs) h = absurd (omega (arith, h .size))
-marks-agree (y ∷ ys) (Forall₂·cons {a = x} {l₁ = xs} c cs) h =
-    let m : x / 2 ≡ y / 2 = h .marks 0 (omega arith) in
-    Forall₂·cons
-    (relations-mean .agree x y c (omega arith) .1 (m, h .values 0 (omega arith)))
-    (marks-agree ys cs
-    (record { size = omega (arith, h .size); marks = λ i l. h .marks (suc i) (omega arith); values = λ i l. h .values (suc i) (omega arith) }))
+marks-agree {xs} ys c h =
+    pairs-places xs ys 0 (h .size)
+    (λ i l.
+    let low : getD xs i 0 ≤ 3 = pairs-getD i 0 (lit≤ tt) c in
+    let m = h .marks i l in
+    relations-mean .agree (getD xs i 0) (getD ys i 0) low (omega arith) .1 (m, h .values i l))
 
-agree-marks : {xs ys : List ℕ} → Agree xs ys → SameMarks xs ys
+pub agree-marks : {xs ys : List ℕ} → Agree xs ys → SameMarks xs ys
 agree-marks a =
     record {
       size = pairs-length a;

@@ -1,4 +1,4 @@
--- What one run from power-up, or one step, says, in bytes alone: without lists of calls, and without the relations by which the demands are stated. It is what a user leans on
+-- What one run, or one step, says, in bytes alone: without lists of calls, and without the relations by which the demands are stated. It is what a user leans on
 -- who runs a netlist once; that it follows shows that the demands say it.
 use Prim.Native.Nat.{ℕ, _+_, _*_, _/_, _%_, _<_}
 use mathlib.Core.Path.{_≡_}
@@ -26,21 +26,23 @@ pub record SameMarks (rows rows′ : List ℕ) : Type 0 where
   pub marks : (i : ℕ) → i < length rows → getD rows i 0 / 2 ≡ getD rows′ i 0 / 2
   pub values : (i : ℕ) → i < length rows → getD rows i 0 / 2 ≡ 0 → getD rows i 0 % 2 ≡ getD rows′ i 0 % 2
 
--- two runs' answers and outputs, where the first is clear: the second is clear too, and in every cycle c the byte of every protected OUT is unmarked, and the same
+-- two runs, of which the first is clear: the second is clear too, in every cycle c the byte of every protected OUT is unmarked, and the same; and the states that they
+-- leave differ at most in the values of marked registers, so that it holds of the next run as well
 pub record StaysClear (s : List ℕ) (k : ℕ) (o o′ : Ran) : Type 0 where
   pub answer : o′ .answer ≡ clearAfter k
   pub protected :
       (c i : ℕ) → c < k → i < sizesOf s .nets → netOf s i .kind ≡ OUT → netOf s i .b ≡ 1
       → let j = c * sizesOf s .outputs + placeOf OUT s i in
       (getD (o .outputs) j 0 / 2 % 2 ≡ 0) × (getD (o .outputs) j 0 ≡ getD (o′ .outputs) j 0)
+  pub state : SameMarks (o .state) (o′ .state)
 
--- a clear run from power-up stays clear whatever the values of marked pins; proved as `clear-stays`
+-- a clear run stays clear whatever the values of marked pins and marked registers, from any state; proved as `clear-stays`
 abbrev pub ClearStays : Type 0
 ClearStays =
-    (s a a′ : List ℕ) (k : ℕ) (rows rows′ outputs outputs′ : List ℕ)
-    → powerUpOf s a .refusal ≡ none → powerUpOf s a′ .refusal ≡ none → SameMarks rows rows′ → length outputs ≡ length outputs′
-    → fromPowerUp s a k rows outputs .answer ≡ clearAfter k
-    → StaysClear s k (fromPowerUp s a k rows outputs) (fromPowerUp s a′ k rows′ outputs′)
+    (s st st′ : List ℕ) (k : ℕ) (rows rows′ outputs outputs′ : List ℕ)
+    → SameMarks st st′ → SameMarks rows rows′ → length outputs ≡ length outputs′
+    → runOf s st k rows outputs .answer ≡ clearAfter k
+    → StaysClear s k (runOf s st k rows outputs) (runOf s st′ k rows′ outputs′)
 
 -- two steps that are lent states and rows which differ at most in the values of marked bytes: the same verdict, and net and register bytes that differ at most so
 pub record SameSteps (o o′ : Stepped) : Type 0 where
@@ -55,11 +57,11 @@ StepsAgree =
     → SameMarks st st′ → SameMarks row row′ → length nets ≡ length nets′ → stepOf s st row nets .answer ≡ done v
     → SameSteps (stepOf s st row nets) (stepOf s st′ row′ nets′)
 
--- rows for the doubled netlist: each byte as two, its value and its mark
-pub record InTwo (rows rows′ : List ℕ) : Type 0 where
-  pub size : length rows′ ≡ 2 * length rows
-  pub values : (i : ℕ) → i < length rows → getD rows′ (2 * i) 0 ≡ getD rows i 0 % 2
-  pub marks : (i : ℕ) → i < length rows → getD rows′ (2 * i + 1) 0 ≡ getD rows i 0 / 2
+-- bytes for the doubled netlist: each byte as two, its value and its mark
+pub record InTwo (bytes bytes′ : List ℕ) : Type 0 where
+  pub size : length bytes′ ≡ 2 * length bytes
+  pub values : (i : ℕ) → i < length bytes → getD bytes′ (2 * i) 0 ≡ getD bytes i 0 % 2
+  pub marks : (i : ℕ) → i < length bytes → getD bytes′ (2 * i + 1) 0 ≡ getD bytes i 0 / 2
 
 -- a run, and that of the doubled netlist: it is not refused, and the values of its output bytes are the values and marks of the run's
 pub record ShowsInTwo (o o′ : Ran) : Type 0 where
@@ -68,12 +70,18 @@ pub record ShowsInTwo (o o′ : Ran) : Type 0 where
   pub values : (j : ℕ) → j < length (o .outputs) → getD (o′ .outputs) (2 * j) 0 % 2 ≡ getD (o .outputs) j 0 % 2
   pub marks : (j : ℕ) → j < length (o .outputs) → getD (o′ .outputs) (2 * j + 1) 0 % 2 ≡ getD (o .outputs) j 0 / 2
 
--- a run on the image that doubling leaves in its buffer shows this, wherever doubling and the run are not refused; proved as `doubled-shows`
+-- every run on s from the state st that is not refused, and the same on d from the state st′
+abbrev pub RunsShow : (s d st st′ : List ℕ) → Type 0
+RunsShow s d st st′ =
+    (k : ℕ) (rows rows′ outputs outputs′ : List ℕ) (f : FirstFlow)
+    → InTwo rows rows′ → length outputs′ ≡ 2 * length outputs → runOf s st k rows outputs .answer ≡ done f
+    → ShowsInTwo (runOf s st k rows outputs) (runOf d st′ k rows′ outputs′)
+
+-- the image d that doubling leaves in its buffer: from power-up, and from any state, whose values and marks its registers are given
+pub record DoubledRuns (s d : List ℕ) : Type 0 where
+  pub from-power-up : (a a′ : List ℕ) → powerUpOf s a .refusal ≡ none → powerUpOf d a′ .refusal ≡ none → RunsShow s d (powerUpOf s a .state) (powerUpOf d a′ .state)
+  pub from-state : (st st′ : List ℕ) → InTwo st st′ → RunsShow s d st st′
+
+-- wherever doubling is not refused; proved as `doubled-shows`
 abbrev pub DoubledShows : Type 0
-DoubledShows =
-    (s buf : List ℕ) → doubleOf s buf .refusal ≡ none
-    → let d = doubleOf s buf .buffer in
-    (a a′ : List ℕ) (k : ℕ) (rows rows′ outputs outputs′ : List ℕ) (f : FirstFlow)
-    → powerUpOf s a .refusal ≡ none → powerUpOf d a′ .refusal ≡ none → InTwo rows rows′ → length outputs′ ≡ 2 * length outputs
-    → fromPowerUp s a k rows outputs .answer ≡ done f
-    → ShowsInTwo (fromPowerUp s a k rows outputs) (fromPowerUp d a′ k rows′ outputs′)
+DoubledShows = (s buf : List ℕ) → doubleOf s buf .refusal ≡ none → DoubledRuns s (doubleOf s buf .buffer)

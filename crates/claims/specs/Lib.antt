@@ -17,4 +17,5 @@ pub mod Groups
 pub mod Pairing
 pub mod TwoRun
 pub mod InBytes
+pub mod UnknownStart
 pub mod Promised

@@ -20,13 +20,17 @@ use Rattle.claims.specs.Groups.{Groups}
 use Rattle.claims.specs.Pairing.{Demand2}
 use Rattle.claims.specs.TwoRun.{Demand3}
 use Rattle.claims.specs.InBytes.{ClearStays, StepsAgree, DoubledShows}
+use Rattle.claims.specs.UnknownStart.{UnknownStarts}
 
 pub record Promised : Type 0 where
-  -- FIRST, what most users lean on. A run from power-up that is clear stays clear, and shows the same bytes at its protected OUTs, whatever the untrusted pins do.
+  -- FIRST, what most users lean on. A run that is clear stays clear, and shows the same bytes at its protected OUTs, whatever the untrusted pins and the marked registers held.
   pub clear-stays : ClearStays
+  -- So it does whatever the registers without a start held when the array woke: from power-up, or from any state with which it may wake, all calls give the same refusals, verdicts,
+  -- marks and unmarked values.
+  pub unknown-start : UnknownStarts
   -- Two steps from states and on rows that differ in the values of marked bytes alone give the same verdict, the same marks and the same unmarked values.
   pub steps-agree : StepsAgree
-  -- A run of the doubled netlist shows, as plain values, the values and marks of the run on its source.
+  -- A run of the doubled netlist shows, as plain values, the values and marks of the run on its source, from power-up and from any state.
   pub doubled-shows : DoubledShows
   -- THE TERMS of the statements below: the numbers of the kinds, a count of nets, a mark, the outputs of a cycle, the doubled size.
   pub terms : Terms
@@ -48,7 +52,7 @@ pub record Promised : Type 0 where
   pub gates-monotone : GatesMonotone
   -- Document 01's examples C1 to C12 come out as it says, and so does a run of two rows.
   pub examples : Examples
-  -- Power-up gives each register its start, whatever the state held before.
+  -- Power-up gives each register its start, trusted, or, where none is given, an untrusted 0, whatever the state held before.
   pub power-up-starts : PowerUpStarts
   -- In every cycle, which a step is and of which a run is made, each net has the byte of its kind, and after the clock each register the byte of its net.
   pub net-bytes : NetBytesAll
@@ -64,7 +68,7 @@ pub record Promised : Type 0 where
   pub run-is-steps : RunIsSteps
   -- Over a list of calls, each call works on the state that the one before it left, refused calls included.
   pub histories : Histories
-  -- The doubled netlist shows the same values and marks as its source, in every cycle of every list of calls.
+  -- The doubled netlist shows the same values and marks as its source, in every cycle of every list of calls, from power-up and from any state.
   pub demand2 : Demand2
   -- The image that doubling writes passes checking, so that refusal 17 is never given.
   pub doubled-checks : DoubledChecks
@@ -74,7 +78,7 @@ pub record Promised : Type 0 where
   pub doubled-reads : DoubledReadsAll
   -- Its groups stand in net order without a gap, each with the length that document 01 gives its kind.
   pub doubled-placed : DoubledPlaced
-  -- Its OUTs are free and its registers' starts are those of document 01, which no run on plain rows shows.
+  -- Its OUTs are free, a value register keeps its start, and a mark register starts at 1 exactly if no start is given.
   pub doubled-unseen : DoubledUnseen
   -- The group of each kind has the nets that document 01 gives it, in that order.
   pub groups : Groups
@@ -90,7 +94,8 @@ pub record Promised : Type 0 where
   pub size-bound : SizeBound
   -- For every N from 1 to 8,192 a netlist that passes checking doubles to that many, or would if 15 did not stop it.
   pub bound-reached : BoundReached
-  -- DEMAND 3, two runs. Two lists of calls that differ in the values of marked pins alone give the same refusals, verdicts, marks and unmarked values.
+  -- DEMAND 3, two runs. Two lists of calls that differ in the values of marked pins alone give the same refusals, verdicts, marks and unmarked values, from power-up and
+  -- from any two states that differ in the values of marked registers alone.
   pub demand3 : Demand3
   -- "Agree", by which that is said, means of bytes 0 to 3 equal marks, and equal values where the mark is 0.
   pub relations-mean : RelationsMean

@@ -1,14 +1,14 @@
 -- A list with a byte for each net of one kind, in net order from some net on: its length, its parts, the place of each net, and two such lists related place by place.
 use Prim.Native.Nat.{ℕ, zero, suc, _+_, _<_}
-use native.Mathlib.Nat.{add-zero}
+use native.Mathlib.Nat.{add-zero, zero-add}
 use native.Mathlib.Omega.{arith}
-use mathlib.Core.Path.{_≡_, refl, ap, _∙_}
+use mathlib.Core.Path.{_≡_, refl, ap, subst, _∙_}
 use mathlib.Core.List.{List, [], _∷_, _++_, Forall₂, Forall₂·nil, Forall₂·cons}
 use mathlib.Core.Bool.{Bool, true, false, cond}
 use lib.Dec.{eqb}
 use lib.ListN.{length, getD, take, drop, length-take}
 use lib.Seq.{split-at, getD-at}
-use borrow.Author.Tests.{eq-eqb}
+use borrow.Author.Tests.{eq-eqb, eqb-true}
 use Rattle.gates.specs.Kinds.{REG, OUT}
 use Rattle.gates.proofs.Laws.{cond-related}
 use Rattle.image.specs.declared.image.Net.{Net}
@@ -57,6 +57,33 @@ unfolding count
 place-below k [] j d h e = absurd (omega arith)
 place-below k (x ∷ xs) zero d h e = rw (eq-eqb (x .kind) k e) (omega arith)
 place-below k (x ∷ xs) (suc j) d h e = let t = place-below k xs j d (omega arith) e in omega arith
+
+-- and at every place among the nets of a kind stands one
+pub record AtPlace (k : ℕ) (xs : List Net) (d : Net) (p : ℕ) : Type 0 where
+  pub net : ℕ
+  pub below : net < length xs
+  pub kind : getD xs net d .kind ≡ k
+  pub place : count k (take net xs) ≡ p
+
+found-later : {k : ℕ} {xs : List Net} {d : Net} {p : ℕ} (x : Net) (n : ℕ) → cond (eqb (x .kind) k) 1 0 ≡ n → AtPlace k xs d p → AtPlace k (x ∷ xs) d (n + p)
+unfolding count
+found-later x n e h = record { net = suc (h .net); below = omega (arith, h .below); kind = h .kind; place = omega (arith, h .place) }
+
+found-first : (k : ℕ) (x : Net) (xs : List Net) (d : Net) (p : ℕ) → p < count k (x ∷ xs) → ((q : ℕ) → q < count k xs → AtPlace k xs d q)
+    → (c : Bool) → eqb (x .kind) k ≡ c → AtPlace k (x ∷ xs) d p
+unfolding count
+found-first k x xs d zero h rest true e = record { net = 0; below = omega arith; kind = eqb-true _ _ e; place = refl }
+found-first k x xs d (suc p) h rest true e =
+    let l = rw e at h in
+    subst (AtPlace k (x ∷ xs) d) (let q : 1 + p ≡ suc p = omega arith in q) (found-later x 1 (rw e) (rest p (omega arith)))
+found-first k x xs d p h rest false e =
+    let l = rw e at h in
+    subst (AtPlace k (x ∷ xs) d) (zero-add p) (found-later x 0 (rw e) (rest p (omega arith)))
+
+pub place-found : (k : ℕ) (xs : List Net) (d : Net) (p : ℕ) → p < count k xs → AtPlace k xs d p
+unfolding count
+place-found k [] d p h = absurd (omega arith)
+place-found k (x ∷ xs) d p h = found-first k x xs d p h (place-found k xs d) (eqb (x .kind) k) refl
 
 pub selection-place : {k : ℕ} {list : ℕ → List Net → List ℕ} {byte : ℕ → Net → ℕ} → Selection k list byte
     → (xs : List Net) (j : ℕ) (d : Net) → j < length xs → getD xs j d .kind ≡ k
