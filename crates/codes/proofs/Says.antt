@@ -10,8 +10,9 @@ use Rattle.image.specs.declared.image.Net.{Net}
 use Rattle.image.specs.Image.{sizesOf, netsOf, count}
 use Rattle.refusals.specs.declared.answer.Refusal.{Refusal}
 use Rattle.refusals.proofs.Refusals.{length-none}
+use Rattle.checking.proofs.Checked.{check-none}
 use Rattle.cycle.specs.Cycle.{Verdict, clear, flow, cyclesOf, FirstFlow, firstFlow}
-use Rattle.cycle.specs.Calls.{Answer, done, refused, asStep, asRun, stepRefusal, stepOf, runOf}
+use Rattle.cycle.specs.Calls.{Answer, done, refused, powerUpOf, asStep, asRun, stepRefusal, stepOf, runOf}
 use Rattle.cycle.proofs.Calls.{either-way, step-accepted, step-refused, run-accepted}
 use Rattle.figures.specs.Figures.{doubledSizeOf}
 use Rattle.figures.proofs.Refusing.{size-accepted, size-given}
@@ -22,7 +23,7 @@ use Rattle.claims.specs.Verdicts as judged
 use Rattle.claims.specs.Verdicts.{MarkedOutput, Judged, First}
 use Rattle.claims.specs.InBytes.{clearAfter}
 use Rattle.claims.proofs.Unchanged.{not-refused}
-use Rattle.claims.proofs.OneRun.{run-taken}
+use Rattle.claims.proofs.OneRun.{powered, run-taken}
 use Rattle.claims.proofs.ClearRun.{cycles-length}
 use Rattle.claims.proofs.Promised.{promised}
 use Rattle.codes.specs.Codes.{outcomeCode, verdictCode, firstFlowCode, answerCode, sizeCode, kindCode}
@@ -161,6 +162,10 @@ says =
       step-clear = λ s st row nets h. step-unmarked s st row nets (sym (reads .step s st row nets) ∙ ap stepRead h);
       step-flow = λ s st row nets h. step-marked s st row nets _ (sym (reads .step s st row nets) ∙ flow-read _ h);
       check-refused = λ s n p h k e. promised .refusals s check (record { number = n; place = p }) .0 (sym (reads .check s) ∙ ap outcomeRead e ∙ refusal-read n p h k);
-      run-clear = λ s a a′ k rows rows′ outputs outputs′ p p′ r l m n.
-          promised .clear-stays s a a′ k rows rows′ outputs outputs′ p p′ r l (run-is-clear s _ k rows outputs m n);
+      run-clear = λ s st st′ k rows rows′ outputs outputs′ q p l m n.
+          promised .clear-stays s st st′ k rows rows′ outputs outputs′ q p l (run-is-clear s st k rows outputs m n);
+      powered-up = λ s a st h w.
+          let c = powered s a (sym (reads .power-up s a) ∙ ap outcomeRead h) in
+          let u = promised .unknown-start s (check-none s .1 (c .0)) in
+          u .states (powerUpOf s a .state) st (u .power-up a (c .1)) w;
     }

@@ -3,7 +3,6 @@ use Prim.Native.Nat.{ℕ, _+_, _*_, _%_, _^_, _≤_, _<_}
 use mathlib.Core.Logic.{_↔_}
 use mathlib.Core.Path.{_≡_}
 use mathlib.Core.List.{List}
-use mathlib.Core.Option.{none}
 use lib.ListN.{length}
 use Rattle.image.specs.Image.{sizesOf, netsOf, count}
 use Rattle.checking.specs.Check.{checkRefusal}
@@ -13,7 +12,8 @@ use Rattle.doubling.specs.Doubling.{doubleOf}
 use Rattle.claims.specs.Accepted.{AcceptedImage}
 use Rattle.claims.specs.Refused.{AnyCall, Refused}
 use Rattle.claims.specs.Verdicts.{MarkedOutput}
-use Rattle.claims.specs.InBytes.{fromPowerUp, SameMarks, StaysClear}
+use Rattle.claims.specs.PowerUp.{Wakes}
+use Rattle.claims.specs.InBytes.{SameMarks, StaysClear}
 use Rattle.codes.specs.Codes.{outcomeCode, verdictCode, firstFlowCode, answerCode, sizeCode, kindCode}
 
 -- proved as `says`
@@ -54,10 +54,12 @@ pub record NumbersSay : Type 0 where
   pub check-refused :
       (s : List ℕ) (number place : ℕ) → 1 ≤ number → place < 2 ^ 32 → outcomeCode (checkRefusal s) ≡ number * 2 ^ 32 + place
       → Refused s AnyCall.check number place
-  -- a run from power-up answers a number below 2^32 whose rest by 65,536 is 65,535: it is clear, and stays clear whatever the values of marked pins
+  -- a run answers a number below 2^32 whose rest by 65,536 is 65,535: it is clear, and stays clear whatever the values of marked pins and marked registers
   pub run-clear :
-      (s a a′ : List ℕ) (k : ℕ) (rows rows′ outputs outputs′ : List ℕ)
-      → powerUpOf s a .refusal ≡ none → powerUpOf s a′ .refusal ≡ none → SameMarks rows rows′ → length outputs ≡ length outputs′
-      → answerCode firstFlowCode (fromPowerUp s a k rows outputs .answer) < 2 ^ 32
-      → answerCode firstFlowCode (fromPowerUp s a k rows outputs .answer) % 65536 ≡ 65535
-      → StaysClear s k (fromPowerUp s a k rows outputs) (fromPowerUp s a′ k rows′ outputs′)
+      (s st st′ : List ℕ) (k : ℕ) (rows rows′ outputs outputs′ : List ℕ)
+      → SameMarks st st′ → SameMarks rows rows′ → length outputs ≡ length outputs′
+      → answerCode firstFlowCode (runOf s st k rows outputs .answer) < 2 ^ 32
+      → answerCode firstFlowCode (runOf s st k rows outputs .answer) % 65536 ≡ 65535
+      → StaysClear s k (runOf s st k rows outputs) (runOf s st′ k rows′ outputs′)
+  -- power-up answers 0: the states with which the array may wake, whatever its registers without a start hold, differ from the one that it leaves at most in the values of marked registers
+  pub powered-up : (s a st : List ℕ) → outcomeCode (powerUpOf s a .refusal) ≡ 0 → Wakes s st → SameMarks (powerUpOf s a .state) st

@@ -1,6 +1,6 @@
 -- Each promise that no proof of `codes` uses, used by its parts: so one that is left out of the record, or loses one of these parts, is missed here.
 use Prim.Native.Nat.{ℕ, _+_, _*_, _/_, _%_, _≤_, _<_}
-use mathlib.Core.Path.{_≡_}
+use mathlib.Core.Path.{_≡_, refl}
 use mathlib.Core.List.{List, [], _∷_, Forall₂, Forall₂·nil}
 use mathlib.Core.Option.{none, some}
 use mathlib.Core.Bool.{true}
@@ -29,10 +29,11 @@ use Rattle.claims.specs.Figures.{total}
 use Rattle.claims.specs.Bound.{orsImage}
 use Rattle.claims.specs.Groups.{oneOfEach, theirGroups}
 use Rattle.claims.specs.Verdicts.{MarkedOutput, Judged, lowest, First, first}
-use Rattle.claims.specs.History.{Call, step, run, accepted, CallResult, history, cyclesIn, TurnedBack, AllMade}
-use Rattle.claims.specs.Pairing.{Again, step-again, shown}
-use Rattle.claims.specs.TwoRun.{Matched, SameCycle, SameCall, turned-back, finished, SameCalls, SameShown}
-use Rattle.claims.specs.InBytes.{fromPowerUp, clearAfter, SameMarks, StaysClear, InTwo}
+use Rattle.claims.specs.PowerUp.{WakesWith, Wakes}
+use Rattle.claims.specs.History.{Call, step, run, accepted, CallResult, history, cyclesIn, TurnedBack, AllFinished, AllMade}
+use Rattle.claims.specs.Pairing.{Again, step-again, shown, Shows}
+use Rattle.claims.specs.TwoRun.{Matched, SameCycle, SameCall, turned-back, finished, SameCalls, SameShown, SameDoubled}
+use Rattle.claims.specs.InBytes.{fromPowerUp, clearAfter, SameMarks, StaysClear, InTwo, ShowsInTwo}
 use Rattle.claims.proofs.Promised.{promised}
 
 -- TERMS
@@ -115,7 +116,7 @@ two-rows = promised .examples .two-rows
 module _ (s st : List ℕ) (h : checkRefusal s ≡ none) (l : length st ≡ stateLength (sizesOf s)) where
   register-starts : (i : ℕ) → i < sizesOf s .nets → netOf s i .kind ≡ REG
       → (netOf s i .b ≡ 0 → Counted REG s i (powerUpOf s st .state) 0) × (netOf s i .b ≡ 1 → Counted REG s i (powerUpOf s st .state) 1)
-      × (netOf s i .b ≡ 2 → Counted REG s i (powerUpOf s st .state) 0)
+      × (netOf s i .b ≡ 2 → Counted REG s i (powerUpOf s st .state) 2)
   register-starts i m k = let p = promised .power-up-starts s st h l in (p .start-0 i m k, p .start-1 i m k, p .none-given i m k)
 
   powered-up : (powerUpOf s st .refusal ≡ none) × (length (powerUpOf s st .state) ≡ stateLength (sizesOf s))
@@ -157,6 +158,18 @@ module _ (s buf : List ℕ) (h : checkRefusal s ≡ none) (few : doubledSize (ne
   doubled-written : doubleOf s buf .refusal ≡ none
   doubled-written = promised .demand2 s h few buf l .written
 
+  -- demand 2, from any state and from power-up
+  module _ (cs cs′ : List Call) where
+    paired-cycles : (st : List ℕ)
+        → let d = doubleOf s buf .buffer in Forall₂ (Again d) (accepted s st cs) cs′ → Forall₂ (Shows s d) (cyclesIn (history s st cs)) (cyclesIn (history d (split st) cs′))
+    paired-cycles st p = promised .demand2 s h few buf l .from-state st cs cs′ p .cycles
+
+    powered-cycles : (a b : List ℕ) → let d = doubleOf s buf .buffer in
+        length a ≡ stateLength (sizesOf s) → length b ≡ stateLength (sizesOf d) → Forall₂ (Again d) (accepted s (powerUpOf s a .state) cs) cs′
+        → Forall₂ (Shows s d) (cyclesIn (history s (powerUpOf s a .state) cs)) (cyclesIn (history d (powerUpOf d b .state) cs′))
+        × AllFinished (history d (powerUpOf d b .state) cs′)
+    powered-cycles a b m n p = let q = promised .demand2 s h few buf l .from-power-up a b m n .2 cs cs′ p in (q .cycles, q .finished)
+
   doubled-checked : checkRefusal (doubledImage s) ≡ none
   doubled-checked = promised .doubled-checks s h few
 
@@ -183,8 +196,9 @@ free-outs s = promised .doubled-unseen s .outs
 
 register-pair : (s : List ℕ) (i : ℕ) → i < sizesOf s .nets → netOf s i .kind ≡ REG
     → (netOf (doubledImage s) (valueNet (netsOf s) i) ≡ net REG (valueNet (netsOf s) (netOf s i .a)) (netOf s i .b) 0)
-    × (netOf (doubledImage s) (markNet (netsOf s) i) ≡ net REG (markNet (netsOf s) (netOf s i .a)) 0 0)
-register-pair s i l k = let u = promised .doubled-unseen s in (u .values i l k, u .marks i l k)
+    × ((netOf s i .b ≡ 2 → ⊥) → netOf (doubledImage s) (markNet (netsOf s) i) ≡ net REG (markNet (netsOf s) (netOf s i .a)) 0 0)
+    × (netOf s i .b ≡ 2 → netOf (doubledImage s) (markNet (netsOf s) i) ≡ net REG (markNet (netsOf s) (netOf s i .a)) 1 0)
+register-pair s i l k = let u = promised .doubled-unseen s in (u .values i l k, u .marks i l k, u .unknown-marks i l k)
 
 each-group : (doubledNets oneOfEach ≡ theirGroups) × (doubledSize oneOfEach ≡ 33)
 each-group = (promised .groups .nets, promised .groups .size)
@@ -193,22 +207,28 @@ xor-group : (xs : List Net) (i : ℕ) (x : Net) → x .kind ≡ 6
     → groupAt xs i x ≡ net 6 (valueNet xs (x .a)) (valueNet xs (x .b)) 0 ∷ net 5 (markNet xs (x .a)) (markNet xs (x .b)) 0 ∷ []
 xor-group xs i x = promised .groups .each xs i x .xor
 
-two-values :
-    (s buf : List ℕ) → doubleOf s buf .refusal ≡ none
-    → let d = doubleOf s buf .buffer in
-    (a a′ : List ℕ) (k : ℕ) (rows rows′ outputs outputs′ : List ℕ) (f : FirstFlow)
-    → powerUpOf s a .refusal ≡ none → powerUpOf d a′ .refusal ≡ none → InTwo rows rows′ → length outputs′ ≡ 2 * length outputs
-    → fromPowerUp s a k rows outputs .answer ≡ done f → (j : ℕ) → j < length (fromPowerUp s a k rows outputs .outputs)
-    → (getD (fromPowerUp d a′ k rows′ outputs′ .outputs) (2 * j) 0 % 2 ≡ getD (fromPowerUp s a k rows outputs .outputs) j 0 % 2)
-    × (getD (fromPowerUp d a′ k rows′ outputs′ .outputs) (2 * j + 1) 0 % 2 ≡ getD (fromPowerUp s a k rows outputs .outputs) j 0 / 2)
-two-values s buf w a a′ k rows rows′ outputs outputs′ f p p′ r l h j m =
-    let t = promised .doubled-shows s buf w a a′ k rows rows′ outputs outputs′ f p p′ r l h in (t .values j m, t .marks j m)
+shown-in-two : {o o′ : Ran} → ShowsInTwo o o′ → (j : ℕ) → j < length (o .outputs)
+    → (getD (o′ .outputs) (2 * j) 0 % 2 ≡ getD (o .outputs) j 0 % 2) × (getD (o′ .outputs) (2 * j + 1) 0 % 2 ≡ getD (o .outputs) j 0 / 2)
+shown-in-two t j m = (t .values j m, t .marks j m)
+
+-- a run of the doubled netlist, from any state and from power-up
+module _ (s buf : List ℕ) (w : doubleOf s buf .refusal ≡ none) (k : ℕ) (rows rows′ outputs outputs′ : List ℕ) (f : FirstFlow)
+    (r : InTwo rows rows′) (l : length outputs′ ≡ 2 * length outputs) where
+  run-in-two : (st st′ : List ℕ) → InTwo st st′ → runOf s st k rows outputs .answer ≡ done f
+      → ShowsInTwo (runOf s st k rows outputs) (runOf (doubleOf s buf .buffer) st′ k rows′ outputs′)
+  run-in-two st st′ t h = promised .doubled-shows s buf w .from-state st st′ t k rows rows′ outputs outputs′ f r l h
+
+  powered-in-two :
+      (a a′ : List ℕ) → powerUpOf s a .refusal ≡ none → powerUpOf (doubleOf s buf .buffer) a′ .refusal ≡ none
+      → fromPowerUp s a k rows outputs .answer ≡ done f
+      → ShowsInTwo (fromPowerUp s a k rows outputs) (fromPowerUp (doubleOf s buf .buffer) a′ k rows′ outputs′)
+  powered-in-two a a′ p p′ h = promised .doubled-shows s buf w .from-power-up a a′ p p′ k rows rows′ outputs outputs′ f r l h
 
 a-step-again : (d row b b′ : List ℕ) → length b′ ≡ sizesOf d .nets → Again d (step row b) (step (split row) b′)
 a-step-again d row b b′ l = step-again l
 
-stays-clear : {s : List ℕ} {k : ℕ} {o o′ : Ran} → StaysClear s k o o′ → o′ .answer ≡ clearAfter k
-stays-clear c = c .answer
+stays-clear : {s : List ℕ} {k : ℕ} {o o′ : Ran} → StaysClear s k o o′ → (o′ .answer ≡ clearAfter k) × SameMarks (o .state) (o′ .state)
+stays-clear c = (c .answer, c .state)
 
 stays-unmarked : {s : List ℕ} {k : ℕ} {o o′ : Ran} → StaysClear s k o o′
     → (c i : ℕ) → c < k → i < sizesOf s .nets → netOf s i .kind ≡ OUT → netOf s i .b ≡ 1
@@ -275,11 +295,34 @@ matched-runs = Matched.runs
 any-states : (s : List ℕ) (cs ds : List Call) → checkRefusal s ≡ none → Forall₂ Matched cs ds → (st st′ : List ℕ) → Agree st st′ → SameCalls s st st′ cs ds
 any-states s cs ds h m = promised .demand3 s h cs ds m .calls
 
--- the doubled half of demand 3
-doubled-lists : (s : List ℕ) → checkRefusal s ≡ none → doubledSize (netsOf s) ≤ 8192 → (buf : List ℕ) → length buf ≡ 8 + 7 * doubledSize (netsOf s)
-    → let d = doubleOf s buf .buffer in
-    (a b a′ b′ : List ℕ) → length a ≡ stateLength (sizesOf s) → length b ≡ stateLength (sizesOf s) → length a′ ≡ stateLength (sizesOf d) → length b′ ≡ stateLength (sizesOf d)
-    → (cs ds cs′ ds′ : List Call) → Forall₂ Matched cs ds
-    → Forall₂ (Again d) (accepted s (powerUpOf s a .state) cs) cs′ → Forall₂ (Again d) (accepted s (powerUpOf s b .state) ds) ds′
-    → Forall₂ (SameShown s d) (cyclesIn (history d (powerUpOf d a′ .state) cs′)) (cyclesIn (history d (powerUpOf d b′ .state) ds′))
-doubled-lists s h few buf l a b a′ b′ p q p′ q′ cs ds cs′ ds′ m x y = promised .demand3 s h cs ds m .doubled few buf l a b a′ b′ p q p′ q′ cs′ ds′ x y .7
+-- the doubled half of demand 3, from any two states that agree and from power-up
+module _ (s : List ℕ) (h : checkRefusal s ≡ none) (few : doubledSize (netsOf s) ≤ 8192) (buf : List ℕ) (l : length buf ≡ 8 + 7 * doubledSize (netsOf s))
+    (cs ds cs′ ds′ : List Call) (m : Forall₂ Matched cs ds) where
+  abbrev d : List ℕ
+  d = doubleOf s buf .buffer
+
+  both-shown : {st st′ : List ℕ} → SameDoubled s d st st′ cs′ ds′ → Forall₂ (SameShown s d) (cyclesIn (history d st cs′)) (cyclesIn (history d st′ ds′))
+  both-shown t = t .shown
+
+  doubled-lists : (st st′ : List ℕ) → Agree st st′ → Forall₂ (Again d) (accepted s st cs) cs′ → Forall₂ (Again d) (accepted s st′ ds) ds′
+      → SameDoubled s d (split st) (split st′) cs′ ds′
+  doubled-lists st st′ q = promised .demand3 s h cs ds m .doubled few buf l .calls st st′ q cs′ ds′
+
+  powered-lists :
+      (a b a′ b′ : List ℕ) → length a ≡ stateLength (sizesOf s) → length b ≡ stateLength (sizesOf s) → length a′ ≡ stateLength (sizesOf d) → length b′ ≡ stateLength (sizesOf d)
+      → Forall₂ (Again d) (accepted s (powerUpOf s a .state) cs) cs′ → Forall₂ (Again d) (accepted s (powerUpOf s b .state) ds) ds′
+      → SameDoubled s d (powerUpOf d a′ .state) (powerUpOf d b′ .state) cs′ ds′
+  powered-lists a b a′ b′ p q p′ q′ = promised .demand3 s h cs ds m .doubled few buf l .from-power-up a b a′ b′ p q p′ q′ .2 cs′ ds′
+
+-- REGISTERS THAT WAKE UNKNOWN
+module _ (s : List ℕ) (h : checkRefusal s ≡ none) where
+  any-value : (st : List ℕ) → Wakes s st → (i : ℕ) → i < sizesOf s .nets → netOf s i .kind ≡ REG → WakesWith (netOf s i .b) (getD st (placeOf REG s i) 0)
+  any-value st w = w .register
+
+  woken-calls : (st st′ : List ℕ) → Wakes s st → Wakes s st′ → (cs ds : List Call) → Forall₂ Matched cs ds → SameCalls s st st′ cs ds
+  woken-calls = promised .unknown-start s h .calls
+
+  woken-clear :
+      (a st : List ℕ) (k : ℕ) (rows outputs : List ℕ) → length a ≡ stateLength (sizesOf s) → Wakes s st → SameMarks rows rows
+      → fromPowerUp s a k rows outputs .answer ≡ clearAfter k → runOf s st k rows outputs .answer ≡ clearAfter k
+  woken-clear a st k rows outputs l w r e = promised .unknown-start s h .clear a st k rows rows outputs outputs l w r refl e .answer
