@@ -22,6 +22,7 @@ pub mod OneCall
 pub mod TwoSteps
 pub mod OneRun
 pub mod ClearRun
+pub mod Waking
 pub mod UnknownStart
 pub mod DoubledRun
 pub mod Promised

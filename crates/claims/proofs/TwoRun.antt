@@ -26,7 +26,7 @@ use Rattle.claims.proofs.History.{turns-back, made-refused, made-step, 
 use Rattle.claims.proofs.Splitting.{split-value, split-mark}
 use Rattle.claims.proofs.Pairing.{demand2}
 
-agree-refl : (xs : List ℕ) → Agree xs xs
+pub agree-refl : (xs : List ℕ) → Agree xs xs
 agree-refl = pairs-refl (λ x. same)
 
 -- REFUSALS see only lengths and bytes above 3
@@ -52,7 +52,7 @@ same-lent registers pins filled {st} {st′} {r} {r′} b b′ q p h =
       same-length b b′ 14 filled h,
     )
 
-same-refusal : (s : List ℕ) {st st′ : List ℕ} {c d : Call} → Agree st st′ → Matched c d → refusalOf s st c ≡ refusalOf s st′ d
+pub same-refusal : (s : List ℕ) {st st′ : List ℕ} {c d : Call} → Agree st st′ → Matched c d → refusalOf s st c ≡ refusalOf s st′ d
 unfolding refusalOf stepRefusal runRefusal
 same-refusal s q (steps {b = b} {b′} p h) = ap (λ o. checkRefusal s then o) (same-lent _ _ _ b b′ q p h)
 same-refusal s q (runs {k} {b = b} {b′} p h) = ap (λ o. checkRefusal s then (refuse (ltb 4096 k) 9 0 then o)) (same-lent _ _ _ b b′ q p h)
@@ -68,10 +68,10 @@ unfolding asStep
 as-steps c c′ h = record { verdict = ap done (h .verdict); nets = h .bytes; state = h .state }
 
 -- CALLS. One place of the two lists
-record SamePlace (s st st′ : List ℕ) (c d : Call) : Type 0 where
-  call : SameCall (callResult s st c) (callResult s st′ d)
-  state : Agree (callResult s st c .state) (callResult s st′ d .state)
-  cycles : Forall₂ SameCycle (callResult s st c .cycles) (callResult s st′ d .cycles)
+pub record SamePlace (s st st′ : List ℕ) (c d : Call) : Type 0 where
+  pub call : SameCall (callResult s st c) (callResult s st′ d)
+  pub state : Agree (callResult s st c .state) (callResult s st′ d .state)
+  pub cycles : Forall₂ SameCycle (callResult s st c .cycles) (callResult s st′ d .cycles)
 
 same-place :
     (s : List ℕ) {st st′ : List ℕ} {c d : Call} → Agree st st′ → Matched c d
@@ -107,7 +107,7 @@ same-place s {st} {st′} q (runs {k = n} {r} {r′} {b} {b′} p l) none h k =
       cycles = rw (e, e′) t;
     }
 
-place : (s : List ℕ) {st st′ : List ℕ} {c d : Call} → Agree st st′ → Matched c d → SamePlace s st st′ c d
+pub place : (s : List ℕ) {st st′ : List ℕ} {c d : Call} → Agree st st′ → Matched c d → SamePlace s st st′ c d
 place s {st} {c} q m = same-place s q m (refusalOf s st c) refl (sym (same-refusal s q m))
 
 -- from any two states that agree
@@ -150,7 +150,7 @@ same-shown {s} c d x y u v p q r =
     }
 
 -- two lists that match, and their accepted calls made again
-both-doubled : {s d st st′ u u′ : List ℕ} {cs ds : List Call} → Checked s → Forall₂ Matched cs ds → Agree st st′ → AllPaired s d st u → AllPaired s d st′ u′
+pub both-doubled : {s d st st′ u u′ : List ℕ} {cs ds : List Call} → Checked s → Forall₂ Matched cs ds → Agree st st′ → AllPaired s d st u → AllPaired s d st′ u′
     → AllSameDoubled s d st st′ u u′ cs ds
 both-doubled {s} {d} {cs = cs} {ds} c m q x y cs′ ds′ p p′ =
     let l = x cs cs′ p in

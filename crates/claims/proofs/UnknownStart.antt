@@ -1,78 +1,97 @@
--- The states with which an array may wake agree, so that all calls give the same from any of them.
-use Prim.Native.Nat.{ℕ, zero, suc, _/_, _%_, _≤_, _<_}
-use native.Mathlib.Omega.{arith}
-use mathlib.Core.Path.{_≡_, refl, sym, _∙_}
-use mathlib.Core.List.{List}
+-- Whatever the registers without a start held, all calls give the same; and the doubled netlist shows the same, since what it may wake with has the values and marks of what its
+-- source may wake with.
+use Prim.Native.Nat.{ℕ, _≤_}
+use mathlib.Core.Path.{_≡_, refl, sym, ap, _∙_}
+use mathlib.Core.List.{List, [], _∷_, Forall₂}
 use mathlib.Core.Option.{none}
 use lib.Dec.{lit≤}
-use lib.ListN.{length}
-use Rattle.gates.specs.Kinds.{REG}
-use Rattle.gates.specs.Relations.{AgreeByte, Agree}
-use Rattle.gates.proofs.Meaning.{relations-mean}
-use Rattle.image.specs.Image.{sizesOf, net, netsOf}
-use Rattle.image.proofs.Nets.{length-nets}
-use Rattle.image.proofs.Pairs.{pairs-places}
+use Rattle.gates.specs.Relations.{AgreeByte, same, low-high, high-low, Agree}
+use Rattle.gates.proofs.Laws.{Code}
+use Rattle.image.specs.Image.{netsOf}
+use Rattle.image.proofs.Pairs.{pairs-getD, pairs-places}
+use Rattle.refusals.proofs.Refusals.{Codes}
 use Rattle.checking.specs.Check.{checkRefusal}
-use Rattle.checking.proofs.Checked.{Checked, check-none}
-use Rattle.cycle.specs.Calls.{stateLength, powerUpOf}
-use Rattle.cycle.proofs.Selections.{place-found}
-use Rattle.claims.specs.PowerUp.{WakesWith, unknown-0, unknown-1, Wakes}
+use Rattle.checking.proofs.Checked.{check-none}
+use Rattle.cycle.specs.Calls.{starts, powerUpOf}
+use Rattle.cycle.proofs.Calls.{either-way, starts-state, powered-up}
+use Rattle.doubled.specs.Doubled.{doubledSize}
+use Rattle.doubling.specs.Doubling.{doubledImage}
+use Rattle.doubling.proofs.Checks.{doubled-checked, double-none, double-accepted}
+use Rattle.doubling.proofs.Waking.{joined, joins}
+use Rattle.doubling.proofs.Runs.{Carries, starts-again}
+use Rattle.claims.specs.PowerUp.{Wakes}
+use Rattle.claims.specs.History.{Call, refusalOf, accepted}
+use Rattle.claims.specs.TwoRun.{Matched, AllSameDoubled}
 use Rattle.claims.specs.UnknownStart.{UnknownStarts}
-use Rattle.claims.proofs.Accepted.{when-accepted}
-use Rattle.claims.proofs.PowerUp.{power-up-starts}
-use Rattle.claims.proofs.TwoRun.{demand3}
+use Rattle.claims.proofs.History.{accepted-none, accepted-some}
+use Rattle.claims.proofs.Pairing.{pairs}
+use Rattle.claims.proofs.TwoRun.{agree-refl, same-refusal, place, both-doubled, demand3}
 use Rattle.claims.proofs.TwoSteps.{agree-marks}
 use Rattle.claims.proofs.ClearRun.{clear-stays}
+use Rattle.claims.proofs.Waking.{wakes-agree, marks-wake, wakes-powered}
 
--- a register's mark goes by its start, and so does its value where it is unmarked
-wakes-as : {b x : ℕ} → WakesWith b x → (x ≤ 3) × (x / 2 ≡ b / 2) × (b / 2 ≡ 0 → x % 2 ≡ b)
-wakes-as WakesWith.zero = (lit≤ tt, refl, λ h. refl)
-wakes-as WakesWith.one = (lit≤ tt, refl, λ h. refl)
-wakes-as unknown-0 = (lit≤ tt, refl, λ h. absurd (omega arith))
-wakes-as unknown-1 = (lit≤ tt, refl, λ h. absurd (omega arith))
+-- THE DOUBLED NETLIST. What it may wake with has the values and marks of what its source may wake with
+record WokenPair (s u : List ℕ) : Type 0 where
+  source : List ℕ
+  wakes : Wakes s source
+  carries : Carries source u
 
-wake-alike : {b x y : ℕ} → WakesWith b x → WakesWith b y → AgreeByte x y
-wake-alike {b} {x} {y} v w =
-    let p = wakes-as v in
-    let q = wakes-as w in
-    relations-mean .agree x y (p .0) (q .0) .1 (p .1 ∙ sym (q .1), λ h. let z = sym (p .1) ∙ h in p .2 z ∙ sym (q .2 z))
+codes-agree : {xs ys : List ℕ} → Codes xs → Agree xs ys → Codes ys
+codes-agree {xs} {ys} c a =
+    pairs-places ys ys 0 refl (λ i l. agree-code (pairs-getD {R = Code} i 0 (lit≤ tt) c) (pairs-getD i 0 same a))
+  where
+    agree-code : {x y : ℕ} → x ≤ 3 → AgreeByte x y → y ≤ 3
+    agree-code h same = h
+    agree-code h low-high = lit≤ tt
+    agree-code h high-low = lit≤ tt
 
--- two states
-pub wakes-agree : {s st st′ : List ℕ} → Checked s → Wakes s st → Wakes s st′ → Agree st st′
-wakes-agree {s} {st} {st′} c w w′ =
-    pairs-places st st′ 0 (w .size ∙ sym (w′ .size))
-    (λ p l.
-    let f = place-found REG (netsOf s) (net 0 0 0 0) p (omega (arith, w .size, c .registers)) in
-    let below : f .net < sizesOf s .nets = omega (arith, f .below, length-nets s) in
-    rw (f .place) at (wake-alike (w .register (f .net) below (f .kind)) (w′ .register (f .net) below (f .kind))))
-
--- power-up gives such a state
-wakes-with : (b x : ℕ) → b ≤ 2 → (b ≡ 0 → x ≡ 0) → (b ≡ 1 → x ≡ 1) → (b ≡ 2 → x ≡ 2) → WakesWith b x
-wakes-with zero x l p q r = rw (p refl) WakesWith.zero
-wakes-with (suc zero) x l p q r = rw (q refl) WakesWith.one
-wakes-with (suc (suc zero)) x l p q r = rw (r refl) unknown-0
-wakes-with (suc (suc (suc b))) x l p q r = absurd (omega arith)
-
-pub powered-wakes : (s a : List ℕ) → checkRefusal s ≡ none → length a ≡ stateLength (sizesOf s) → Wakes s (powerUpOf s a .state)
-powered-wakes s a h l =
-    let t = power-up-starts s a h l in
-    let listed = when-accepted .check s .0 h .nets in
+woken-pair : (s u : List ℕ) → checkRefusal s ≡ none → doubledSize (netsOf s) ≤ 8192 → Wakes (doubledImage s) u → WokenPair s u
+woken-pair s u h few w =
+    let c = check-none s .0 h in
+    let d = doubledImage s in
+    let cd = doubled-checked s c few in
+    let xs = starts (netsOf s) in
+    let up = rw (powered-up d u cd (w .size)) at (wakes-powered d u (check-none d .1 cd) (w .size) w) in
+    let j = joins xs (starts-state c .codes) (rw (starts-again s c few) at up) in
+    let l = starts-state c .size in
     record {
-      size = t .size;
-      register = λ i m k.
-          wakes-with _ _ (listed i m .values .start k)
-          (λ b. t .start-0 i m k b .byte)
-          (λ b. t .start-1 i m k b .byte)
-          (λ b. t .none-given i m k b .byte);
+      source = joined u;
+      wakes = marks-wake s xs h l (joined u) (rw (powered-up s xs c l) (agree-marks (j .agree)));
+      carries = record { values = j .values; codes = λ k. codes-agree (starts-state cd .codes) up };
     }
+
+-- states that agree accept the same calls
+matched-itself : (c : Call) → Matched c c
+matched-itself (Call.step row nets) = Matched.steps (agree-refl row) refl
+matched-itself (Call.run k rows outputs) = Matched.runs (agree-refl rows) refl
+
+same-accepted : (s : List ℕ) {st st′ : List ℕ} (cs : List Call) → Agree st st′ → accepted s st cs ≡ accepted s st′ cs
+same-accepted s [] q = unfold accepted in refl
+same-accepted s {st} {st′} (c ∷ cs) q =
+    let e = same-refusal s q (matched-itself c) in
+    either-way (refusalOf s st c)
+    (λ h. rw (accepted-none s st c cs h, accepted-none s st′ c cs (sym e ∙ h)) (ap (λ ds. c ∷ ds) (same-accepted s cs (place s q (matched-itself c) .state))))
+    (λ r h. rw (accepted-some s st c cs r h, accepted-some s st′ c cs r (sym e ∙ h)) (same-accepted s cs q))
+
+woken-doubled : (s : List ℕ) → checkRefusal s ≡ none → doubledSize (netsOf s) ≤ 8192
+    → let d = doubledImage s in
+    (st st′ u u′ : List ℕ) → Wakes s st → Wakes s st′ → Wakes d u → Wakes d u′
+    → (cs ds : List Call) → Forall₂ Matched cs ds → AllSameDoubled s d st st′ u u′ cs ds
+woken-doubled s h few st st′ u u′ w w′ v v′ cs ds m cs′ ds′ p p′ =
+    let c = check-none s .0 h in
+    let x = woken-pair s u h few v in
+    let y = woken-pair s u′ h few v′ in
+    both-doubled c m (wakes-agree c (x .wakes) (y .wakes)) (pairs s c few (x .carries)) (pairs s c few (y .carries)) cs′ ds′
+    (rw (same-accepted s cs (wakes-agree c w (x .wakes))) at p)
+    (rw (same-accepted s ds (wakes-agree c w′ (y .wakes))) at p′)
 
 pub unknown-start : UnknownStarts
 unknown-start s h =
     let c = check-none s .0 h in
     record {
-      power-up = λ a l. powered-wakes s a h l;
-      states = λ st st′ w w′. agree-marks (wakes-agree c w w′);
+      states = λ a st l. (λ w. agree-marks (wakes-powered s a h l w), marks-wake s a h l st);
       calls = λ st st′ w w′ cs ds m. demand3 s h cs ds m .calls st st′ (wakes-agree c w w′);
       clear = λ a st k rows rows′ outputs outputs′ l w p m.
-          clear-stays s (powerUpOf s a .state) st k rows rows′ outputs outputs′ (agree-marks (wakes-agree c (powered-wakes s a h l) w)) p m;
+          clear-stays s (powerUpOf s a .state) st k rows rows′ outputs outputs′ (agree-marks (wakes-powered s a h l w)) p m;
+      doubled = λ few buf l. rw (double-accepted s buf (double-none s buf .1 (c, few, l))) (woken-doubled s h few);
     }

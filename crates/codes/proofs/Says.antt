@@ -12,7 +12,7 @@ use Rattle.refusals.specs.declared.answer.Refusal.{Refusal}
 use Rattle.refusals.proofs.Refusals.{length-none}
 use Rattle.checking.proofs.Checked.{check-none}
 use Rattle.cycle.specs.Cycle.{Verdict, clear, flow, cyclesOf, FirstFlow, firstFlow}
-use Rattle.cycle.specs.Calls.{Answer, done, refused, powerUpOf, asStep, asRun, stepRefusal, stepOf, runOf}
+use Rattle.cycle.specs.Calls.{Answer, done, refused, asStep, asRun, stepRefusal, stepOf, runOf}
 use Rattle.cycle.proofs.Calls.{either-way, step-accepted, step-refused, run-accepted}
 use Rattle.figures.specs.Figures.{doubledSizeOf}
 use Rattle.figures.proofs.Refusing.{size-accepted, size-given}
@@ -166,6 +166,5 @@ says =
           promised .clear-stays s st st′ k rows rows′ outputs outputs′ q p l (run-is-clear s st k rows outputs m n);
       powered-up = λ s a st h w.
           let c = powered s a (sym (reads .power-up s a) ∙ ap outcomeRead h) in
-          let u = promised .unknown-start s (check-none s .1 (c .0)) in
-          u .states (powerUpOf s a .state) st (u .power-up a (c .1)) w;
+          promised .unknown-start s (check-none s .1 (c .0)) .states a st (c .1) .0 w;
     }

@@ -1,4 +1,4 @@
--- One cycle of the doubled netlist shows the value and the mark of every net of the source; so do its outputs, its state and power-up.
+-- One cycle of the doubled netlist shows the value and the mark of every net of the source; so do its outputs and its state.
 use Prim.Native.Nat.{ℕ, zero, suc, _+_, _*_, _-_, _/_, _%_, _≤_, _<_}
 use mathlib.Core.Path.{_≡_, refl, ap, ap₂, sym, _∙_, subst}
 use mathlib.Core.List.{List, [], _∷_, _++_, map, append-assoc, Forall₂, Forall₂·nil, Forall₂·cons}
@@ -10,7 +10,7 @@ use lib.Dec.{lit≤}
 use lib.ListN.{length, getD, take, drop, length-append, List·getD-append}
 use lib.Seq.{getD-append-add, getD-append-seam, drop-drop}
 use Rattle.gates.specs.Rules.{gateByte}
-use Rattle.gates.proofs.Laws.{SameValue, Code}
+use Rattle.gates.proofs.Laws.{Code}
 use Rattle.image.specs.declared.image.Net.{Net}
 use Rattle.image.specs.Image.{net}
 use Rattle.image.proofs.Pairs.{pairs-append, pairs-getD, pairs-drop}
@@ -18,12 +18,10 @@ use Rattle.refusals.proofs.Refusals.{Codes}
 use Rattle.net_checking.proofs.Passes.{Passes, is-const, is-input, is-reg, is-not, is-and, is-or, is-xor, is-mux, is-out}
 use Rattle.checking.proofs.Checked.{AllPass, nil, cons}
 use Rattle.cycle.specs.Cycle.{Walk, pinByte, netByte, past, walk, bytesOf, outputsFrom, registers, clocked, Cycle, cycleOf}
-use Rattle.cycle.specs.Calls.{start, starts}
-use Rattle.cycle.proofs.Cycles.{registers-related}
 use Rattle.cycle.proofs.Walks.{walk-append}
 use Rattle.cycle.proofs.Selections.{Selection, outputs-selected, registers-selected, selection-append}
 use Rattle.groups.specs.Groups.{groupLength, groupLengths, markStart, groupOf, split}
-use Rattle.groups.proofs.Groups.{at, past-gate, walked-all, comes-length, Splits, byte-splits, const-splits, Bits, Group, not-group, and-group, or-group, xor-group, mux-group, out-group, reg-starts}
+use Rattle.groups.proofs.Groups.{at, past-gate, walked-all, comes-length, Splits, byte-splits, const-splits, Bits, Group, not-group, and-group, or-group, xor-group, mux-group, out-group}
 use Rattle.doubled.specs.Doubled.{doubledSize, valueNet, markNet, groupAt, groupsFrom, doubledNets}
 use Rattle.doubled.proofs.Positions.{below-or, Laid, end, next, laid, group-length, value-below, mark-below, mark-second}
 
@@ -214,64 +212,56 @@ cycle-follows : {xs : List Net} {n : ℕ} (row st : List ℕ) → AllPass n 0 xs
 unfolding doubledNets
 cycle-follows {xs} row st ps e br bs = follow ps e ps (laid xs) (omega arith) (begins xs row st br bs)
 
--- OUTPUTS AND CLOCK. What is read off the bytes of a cycle, group by group
+-- OUTPUTS AND REGISTERS. What is read off group by group, two bytes for each byte of the source
+pub record Twice (two : List ℕ → List ℕ) : Type 0 where
+  pub none : two [] ≡ []
+  pub append : (xs ys : List ℕ) → two (xs ++ ys) ≡ two xs ++ two ys
+
+split-twice : Twice split
+split-twice = record { none = unfold split in refl; append = split-append }
+
 module _ {k : ℕ} {l l′ : ℕ → List Net → List ℕ} {b b′ : ℕ → Net → ℕ} (selection : Selection k l b) (selection′ : Selection k l′ b′)
-    {n : ℕ} {xs : List Net} (ps : AllPass n 0 xs) (e : n ≡ length xs)
+    {two : List ℕ → List ℕ} (twice : Twice two) {n : ℕ} {xs : List Net} (ps : AllPass n 0 xs) (e : n ≡ length xs)
     (group : (i : ℕ) (y : Net) → i < n → Passes n i y → valueNet xs (suc i) ≡ valueNet xs i + groupLength (y .kind)
-    → l′ (valueNet xs i) (groupAt xs i y) ≡ split (l i (y ∷ []))) where
-  groups-split : {i : ℕ} {ys : List Net} → AllPass n i ys → Laid xs i ys → i + length ys ≡ n → l′ (valueNet xs i) (groupsFrom xs i ys) ≡ split (l i ys)
-  unfolding groupsFrom split
-  groups-split (nil {i}) (end m) h = rw (selection .none i, selection′ .none (valueNet xs i))
-  groups-split (cons {i = i} {x = y} {xs = ys} q qs) (next m ls) h =
+    → l′ (valueNet xs i) (groupAt xs i y) ≡ two (l i (y ∷ []))) where
+  groups-twice : {i : ℕ} {ys : List Net} → AllPass n i ys → Laid xs i ys → i + length ys ≡ n → l′ (valueNet xs i) (groupsFrom xs i ys) ≡ two (l i ys)
+  unfolding groupsFrom
+  groups-twice (nil {i}) (end m) h = rw (selection .none i, selection′ .none (valueNet xs i), twice .none)
+  groups-twice (cons {i = i} {x = y} {xs = ys} q qs) (next m ls) h =
       let e : valueNet xs i + length (groupAt xs i y) ≡ valueNet xs (suc i) = rw (group-length xs i y) (sym m) in
       let o : l i (y ∷ ys) ≡ l i (y ∷ []) ++ l (suc i) ys = rw add-one at (selection-append selection i (y ∷ []) ys) in
-      rw (selection-append selection′ (valueNet xs i) (groupAt xs i y) (groupsFrom xs (suc i) ys), e, o, split-append (l i (y ∷ [])) (l (suc i) ys))
-      (ap₂ (λ (a b : List ℕ). a ++ b) (group i y (omega arith) q m) (groups-split qs ls (omega arith)))
+      rw (selection-append selection′ (valueNet xs i) (groupAt xs i y) (groupsFrom xs (suc i) ys), e, o, twice .append (l i (y ∷ [])) (l (suc i) ys))
+      (ap₂ (λ (a b : List ℕ). a ++ b) (group i y (omega arith) q m) (groups-twice qs ls (omega arith)))
 
-  doubled-split : l′ 0 (doubledNets xs) ≡ split (l 0 xs)
+  doubled-twice : l′ 0 (doubledNets xs) ≡ two (l 0 xs)
   unfolding doubledNets valueNet doubledSize
-  doubled-split = groups-split ps (laid xs) (omega arith)
+  doubled-twice = groups-twice ps (laid xs) (omega arith)
 
--- the two registers of a register take the value and the mark of what it takes
-module _ (f f′ : Net → ℕ) {n : ℕ} (xs : List Net)
-    (value : (a b : ℕ) → a < n → f′ (net 2 (valueNet xs a) b 0) ≡ f (net 2 a b 0) % 2)
-    (mark : (a b : ℕ) → a < n → f′ (net 2 (markNet xs a) (markStart b) 0) ≡ f (net 2 a b 0) / 2) where
-  group-registers : {i : ℕ} {y : Net} → Passes n i y → registers f′ (groupAt xs i y) ≡ split (registers f (y ∷ []))
-  unfolding groupOf registers split
-  group-registers (is-const h) = refl
-  group-registers is-input = refl
-  group-registers (is-reg {a} {b} h k) = rw (value a b h, mark a b h)
-  group-registers (is-not h) = refl
-  group-registers (is-and h k) = refl
-  group-registers (is-or h k) = refl
-  group-registers (is-xor h k) = refl
-  group-registers (is-mux h k o) = refl
-  group-registers (is-out h k) = refl
+-- the two registers of a register
+module _ (f f′ : Net → ℕ) {two : List ℕ → List ℕ} (twice : Twice two) {n : ℕ} (xs : List Net)
+    (pair : (a b : ℕ) → a < n → f′ (net 2 (valueNet xs a) b 0) ∷ f′ (net 2 (markNet xs a) (markStart b) 0) ∷ [] ≡ two (f (net 2 a b 0) ∷ [])) where
+  group-registers : {i : ℕ} {y : Net} → Passes n i y → registers f′ (groupAt xs i y) ≡ two (registers f (y ∷ []))
+  unfolding groupOf registers
+  group-registers (is-const h) = sym (twice .none)
+  group-registers is-input = sym (twice .none)
+  group-registers (is-reg {a} {b} h k) = pair a b h
+  group-registers (is-not h) = sym (twice .none)
+  group-registers (is-and h k) = sym (twice .none)
+  group-registers (is-or h k) = sym (twice .none)
+  group-registers (is-xor h k) = sym (twice .none)
+  group-registers (is-mux h k o) = sym (twice .none)
+  group-registers (is-out h k) = sym (twice .none)
 
-  registers-split : AllPass n 0 xs → n ≡ length xs → registers f′ (doubledNets xs) ≡ split (registers f xs)
-  registers-split ps e = doubled-split (registers-selected f) (registers-selected f′) ps e (λ i y h p m. group-registers p)
-
--- POWER-UP: the mark register's start is the mark of the register's, and the value register's has its value, but may be marked itself
-mark-starts : (b : ℕ) → start (markStart b) % 2 ≡ start b / 2
-unfolding starts registers split
-mark-starts b = let h = reg-starts 0 0 b in cc
-
-plain-value : (x : ℕ) → SameValue (x % 2) x
-plain-value x = record { values = omega arith }
-
-pub starts-split : {xs : List Net} {n : ℕ} → AllPass n 0 xs → n ≡ length xs → Forall₂ SameValue (split (starts xs)) (starts (doubledNets xs))
-unfolding starts
-starts-split {xs} ps e =
-    let plain = registers-split (λ x. start (x .b)) (λ x. start (x .b) % 2) xs (λ a b h. refl) (λ a b h. mark-starts b) ps e in
-    rw (← plain) (registers-related SameValue (λ x. plain-value (start (x .b))) (doubledNets xs))
+  pub registers-twice : AllPass n 0 xs → n ≡ length xs → registers f′ (doubledNets xs) ≡ two (registers f xs)
+  registers-twice ps e = doubled-twice (registers-selected f) (registers-selected f′) twice ps e (λ i y h p m. group-registers p)
 
 -- bytes bs of all n nets of xs, and the bytes ds of their groups
 module _ (xs : List Net) {n : ℕ} (bs ds : List ℕ)
     (value : (j : ℕ) → j < n → getD ds (valueNet xs j) 0 ≡ getD bs j 0 % 2)
     (mark : (j : ℕ) → j < n → getD ds (markNet xs j) 0 ≡ getD bs j 0 / 2) where
   clocked-split : AllPass n 0 xs → n ≡ length xs → clocked (doubledNets xs) ds ≡ split (clocked xs bs)
-  unfolding clocked pinByte
-  clocked-split ps e = registers-split _ _ xs (λ a b h. value a h) (λ a b h. mark a h) ps e
+  unfolding clocked pinByte split
+  clocked-split ps e = registers-twice _ _ split-twice xs (λ a b h. rw (value a h, mark a h)) ps e
 
   group-outputs : {i : ℕ} {y : Net} → i < n → Passes n i y → valueNet xs (suc i) ≡ valueNet xs i + groupLength (y .kind)
       → outputsFrom (valueNet xs i) (groupAt xs i y) ds ≡ split (outputsFrom i (y ∷ []) bs)
@@ -287,7 +277,7 @@ module _ (xs : List Net) {n : ℕ} (bs ds : List ℕ)
   group-outputs {i} l (is-out h k) m = let e = mark-second xs i m in rw (← e, value i l, mark i l)
 
   outputs-split : AllPass n 0 xs → n ≡ length xs → outputsFrom 0 (doubledNets xs) ds ≡ split (outputsFrom 0 xs bs)
-  outputs-split ps e = doubled-split (outputs-selected bs) (outputs-selected ds) ps e (λ i y h p m. group-outputs h p m)
+  outputs-split ps e = doubled-twice (outputs-selected bs) (outputs-selected ds) split-twice ps e (λ i y h p m. group-outputs h p m)
 
 -- ONE CYCLE
 abbrev doubledCycle : List Net → (row st : List ℕ) → Cycle

@@ -319,6 +319,9 @@ module _ (s : List ℕ) (h : checkRefusal s ≡ none) where
   any-value : (st : List ℕ) → Wakes s st → (i : ℕ) → i < sizesOf s .nets → netOf s i .kind ≡ REG → WakesWith (netOf s i .b) (getD st (placeOf REG s i) 0)
   any-value st w = w .register
 
+  woken-states : (a st : List ℕ) → length a ≡ stateLength (sizesOf s) → SameMarks (powerUpOf s a .state) st → Wakes s st
+  woken-states a st l = promised .unknown-start s h .states a st l .1
+
   woken-calls : (st st′ : List ℕ) → Wakes s st → Wakes s st′ → (cs ds : List Call) → Forall₂ Matched cs ds → SameCalls s st st′ cs ds
   woken-calls = promised .unknown-start s h .calls
 
@@ -326,3 +329,10 @@ module _ (s : List ℕ) (h : checkRefusal s ≡ none) where
       (a st : List ℕ) (k : ℕ) (rows outputs : List ℕ) → length a ≡ stateLength (sizesOf s) → Wakes s st → SameMarks rows rows
       → fromPowerUp s a k rows outputs .answer ≡ clearAfter k → runOf s st k rows outputs .answer ≡ clearAfter k
   woken-clear a st k rows outputs l w r e = promised .unknown-start s h .clear a st k rows rows outputs outputs l w r refl e .answer
+
+  woken-doubled :
+      doubledSize (netsOf s) ≤ 8192 → (buf : List ℕ) → length buf ≡ 8 + 7 * doubledSize (netsOf s)
+      → let d = doubleOf s buf .buffer in
+      (st st′ u u′ : List ℕ) → Wakes s st → Wakes s st′ → Wakes d u → Wakes d u′ → (cs ds cs′ ds′ : List Call) → Forall₂ Matched cs ds
+      → Forall₂ (Again d) (accepted s st cs) cs′ → Forall₂ (Again d) (accepted s st′ ds) ds′ → SameDoubled s d u u′ cs′ ds′
+  woken-doubled few buf l st st′ u u′ w w′ v v′ cs ds cs′ ds′ m = promised .unknown-start s h .doubled few buf l st st′ u u′ w w′ v v′ cs ds m cs′ ds′

@@ -1,7 +1,7 @@
 -- What the nets of a group come to, past the bytes of the nets before it: the first is the value of the source's byte, the last its mark.
 use Prim.Native.Nat.{ℕ, zero, suc, _+_, _-_, _/_, _%_, _≤_, _<_}
 use mathlib.Core.Path.{_≡_, refl, sym, _∙_}
-use mathlib.Core.List.{List, [], _∷_, _++_, map, append-assoc, append-nil}
+use mathlib.Core.List.{List, [], _∷_, _++_, append-assoc, append-nil}
 use mathlib.Core.Bool.{Bool, true, false, _&&_}
 use native.Mathlib.Omega.{arith}
 use native.Mathlib.Nat.{add-zero}
@@ -15,7 +15,7 @@ use Rattle.image.specs.declared.image.Net.{Net}
 use Rattle.image.specs.Image.{net}
 use Rattle.cycle.specs.Cycle.{Walk, pinByte, netByte, past, walk, registers}
 use Rattle.cycle.specs.Calls.{start, starts}
-use Rattle.groups.specs.Groups.{markStart, regGroup, groupOf, split}
+use Rattle.groups.specs.Groups.{markStart, regGroup, groupOf}
 
 abbrev pub at : (bytes row state : List ℕ) → Walk
 at b r s = record { bytes = b; row = r; state = s }
@@ -244,12 +244,12 @@ mark-start-code b = bit-code (eqb b 2)
     bit-code true = lit≤ tt
     bit-code false = lit≤ tt
 
--- the two registers of a REG power up with the value and the mark of its start, as plain values
-pub reg-starts : (va ta b : ℕ) → map (λ x. x % 2) (starts (regGroup va ta b)) ≡ split (start b ∷ [])
-unfolding starts registers start byte markStart split
+-- of the two registers of a REG, the first powers up with the byte of its start, and the second with the mark of that byte
+pub reg-starts : (va ta b : ℕ) → starts (regGroup va ta b) ≡ start b ∷ start b / 2 ∷ []
+unfolding starts registers start byte markStart
 reg-starts va ta b = by-tests (eqb b 1) (eqb b 2)
   where
-    by-tests : (o t : Bool) → (byte o t % 2 ∷ byte (eqb (bit t) 1) (eqb (bit t) 2) % 2 ∷ []) ≡ (byte o t % 2 ∷ byte o t / 2 ∷ [])
+    by-tests : (o t : Bool) → (byte o t ∷ byte (eqb (bit t) 1) (eqb (bit t) 2) ∷ []) ≡ (byte o t ∷ byte o t / 2 ∷ [])
     by-tests true true = refl
     by-tests true false = refl
     by-tests false true = refl
