@@ -19,11 +19,11 @@ enum : uint8_t { REG = 2, OUT = 8 };
 
 static const size_t BUFFER = 65536;
 
-// What is read from net.bin: sizes, the registers' values at power-up, the net of
-// each OUT, and a bit for each OUT that is protected.
+// What is read from net.bin: sizes, the registers' values and marks at power-up, the
+// net of each OUT, and a bit for each OUT that is protected.
 struct Netlist {
     size_t inputs, registers = 0, outputs = 0;
-    Words start, policies;
+    Words start, start_marks, policies;
     std::vector<size_t> nets;
 };
 
@@ -38,21 +38,27 @@ static Bytes read_image() {
     return image;
 }
 
+// Sets a bit of some words where it is true. All bits are 0 before.
+static void put_bit(Words &words, size_t place, bool bit) { words[place / 32] |= uint32_t(bit) << place % 32; }
+
+// A register without a start, whose operand b is 2, powers up with value 0 and mark 1.
 static Netlist read_netlist() {
     Bytes image = read_image();
     size_t nets = u16_at(image, 0);
     Netlist n;
     n.inputs = u16_at(image, 2);
     n.start.resize(words_of(u16_at(image, 4)));
+    n.start_marks.resize(n.start.size());
     n.policies.resize(words_of(u16_at(image, 6)));
     for (size_t i = 0; i < nets; i++) {
-        uint32_t set = u16_at(image, 8 + nets + 6 * i + 2) == 1;
+        size_t b = u16_at(image, 8 + nets + 6 * i + 2);
         if (image[8 + i] == REG) {
-            n.start[n.registers / 32] |= set << n.registers % 32;
+            put_bit(n.start, n.registers, b == 1);
+            put_bit(n.start_marks, n.registers, b == 2);
             n.registers++;
         }
         if (image[8 + i] == OUT) {
-            n.policies[n.outputs / 32] |= set << n.outputs % 32;
+            put_bit(n.policies, n.outputs, b == 1);
             n.outputs++;
             n.nets.push_back(i);
         }
@@ -137,9 +143,9 @@ int main() {
     Netlist n = read_netlist();
     VerilatedContext context;
     Vtop top(&context);
-    Words bits(words_of(n.inputs)), values(words_of(n.outputs)), marks(words_of(n.outputs)), none(n.start.size());
+    Words bits(words_of(n.inputs)), values(words_of(n.outputs)), marks(words_of(n.outputs));
     set(top.q, n.start.data(), n.start.size());
-    set(top.q_t, none.data(), none.size());
+    set(top.q_t, n.start_marks.data(), n.start_marks.size());
     Bytes rows(BUFFER / n.inputs * n.inputs);
     std::vector<char> text(BUFFER + n.outputs + 64);
     char *end = text.data();

@@ -75,13 +75,12 @@ static Netlist read_netlist(const std::string &folder, size_t cycles) {
 
 // All cycles with verilator's model: the seconds. The outputs' words are filled.
 static double run_model(const Netlist &n, Vtop &top, Words &outputs) {
-    Words start = packed(n.start.data(), n.registers, 0);
-    Words none(n.register_words);
+    Words values = packed(n.start.data(), n.registers, 0), marks = packed(n.start.data(), n.registers, 1);
     const uint32_t *row = n.packed_rows.data();
     uint32_t *out = outputs.data();
     auto begin = Clock::now();
-    set(top.q, start.data(), n.register_words);
-    set(top.q_t, none.data(), n.register_words);
+    set(top.q, values.data(), n.register_words);
+    set(top.q_t, marks.data(), n.register_words);
     for (size_t c = 0; c < n.cycles; c++) {
         set(top.in, row, n.row_words);
         set(top.in_t, row + n.row_words, n.row_words);

@@ -34,26 +34,42 @@ pub fn write_files(mix: Mix, nets: usize, seed: u64, k: usize, folder: &Path) ->
     fs::write(folder.join("rows.hex"), vectors(&bytes.rows, z.inputs, k))?;
     fs::write(folder.join("outputs.hex"), vectors(&outputs, z.outputs, k))?;
     fs::write(folder.join("sizes.vh"), sizes(&bytes, k))?;
-    let marked = outputs.iter().filter(|byte| **byte >= 2).count();
     print!("{} nets needed by an OUT or REG, ", needed(image));
-    println!("{marked} of {} output bytes marked", outputs.len());
+    print!("{} of {} REGs ", marked(&starts(image)), z.registers);
+    print!("without a start, {} of ", marked(&outputs));
+    println!("{} output bytes marked", outputs.len());
     Ok(())
 }
 
-/// The widths of the ports and the values of the registers at power-up.
+/// How many bytes are marked.
+fn marked(bytes: &[u8]) -> usize {
+    bytes.iter().filter(|byte| **byte >= 2).count()
+}
+
+/// The widths of the ports, and the registers at power-up.
 pub fn sizes(bytes: &Bytes, k: usize) -> String {
     let z = bytes.sizes;
-    let bits: String = bytes
-        .start
-        .iter()
-        .rev()
-        .map(|byte| byte.to_string())
-        .collect();
+    let registers = z.registers.max(1);
+    let start = vector(&starts(accepted(&bytes.image)));
     let mut text = format!("`define I {}\n", z.inputs.max(1));
-    text += &format!("`define R {}\n", z.registers.max(1));
+    text += &format!("`define R {registers}\n");
     text += &format!("`define O {}\n", z.outputs.max(1));
     text += &format!("`define K {}\n", k.max(1));
-    text + &format!("`define START {}'b0{bits}\n", z.registers + 1)
+    text + &format!("`define START {}'h{start}\n", 2 * registers)
+}
+
+/// The byte of each register at power-up. It is worked out from the image, so that
+/// the tools do not start with what the library's power-up gives.
+fn starts(image: Image) -> Vec<u8> {
+    let registers = image.nets().filter(|net| net.kind == REG);
+    registers.map(|net| start_byte(net.operands[1])).collect()
+}
+
+/// The byte of a register at power-up: a start of 0 or 1 is the value, with mark 0;
+/// with a start of 2, which is none, the value is 0 and the mark 1.
+fn start_byte(start: u16) -> u8 {
+    let (value, mark) = (start == 1, start == 2);
+    u8::from(value) + 2 * u8::from(mark)
 }
 
 /// A line for each of k cycles of `width` bytes.

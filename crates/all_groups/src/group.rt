@@ -25,10 +25,7 @@ ghost use Rattle.large_groups.specs.Room.{Room, PairFits};
 fn mark_start(b: usize) -> usize
     ensures { λ r. ⌜ r ≡ markStart b ⌝ }
 {
-    if b == 2 {
-        return 1;
-    }
-    0
+    if b == 2 { 1 } else { 0 }
 }
 
 // The group of a net x, from the value nets and mark nets of its pins.

@@ -235,15 +235,6 @@ module _ (ws bs : List ℕ) (i v : ℕ) (val mrk : ℕ → ℕ)
         splits = byte-splits _ (codes a);
       }
 
--- the start of a mark register is a start
-pub mark-start-code : (b : ℕ) → markStart b ≤ 1
-unfolding markStart
-mark-start-code b = bit-code (eqb b 2)
-  where
-    bit-code : (t : Bool) → bit t ≤ 1
-    bit-code true = lit≤ tt
-    bit-code false = lit≤ tt
-
 -- of the two registers of a REG, the first powers up with the byte of its start, and the second with the mark of that byte
 pub reg-starts : (va ta b : ℕ) → starts (regGroup va ta b) ≡ start b ∷ start b / 2 ∷ []
 unfolding starts registers start byte markStart
@@ -254,3 +245,12 @@ reg-starts va ta b = by-tests (eqb b 1) (eqb b 2)
     by-tests true false = refl
     by-tests false true = refl
     by-tests false false = refl
+
+-- the start of a mark register is a start
+pub mark-start-code : (b : ℕ) → markStart b ≤ 1
+unfolding markStart
+mark-start-code b = bit-code (eqb b 2)
+  where
+    bit-code : (t : Bool) → bit t ≤ 1
+    bit-code true = lit≤ tt
+    bit-code false = lit≤ tt
