@@ -44,7 +44,7 @@ pub record Placed (s : List ℕ) : Type 0 where
 abbrev pub DoubledPlaced : Type 0
 DoubledPlaced = (s : List ℕ) → checkRefusal s ≡ none → Placed s
 
--- what no run on plain rows shows: every OUT of the doubled netlist is free; of a register's two, the first keeps its start, also where that is 2, and the second
+-- what runs on plain rows do not show, or not alone: every OUT of the doubled netlist is free; of a register's two, the first keeps its start, also where that is 2, and the second
 -- starts at 0, or at 1 where the register has no start
 pub record Unseen (s : List ℕ) : Type 0 where
   pub outs : (j : ℕ) → netOf (doubledImage s) j .kind ≡ OUT → netOf (doubledImage s) j .b ≡ 0

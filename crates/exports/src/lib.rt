@@ -20,7 +20,7 @@ pub extern "C" fn tracker_check(image: &[u8]) -> u64
     outcome_code(o)
 }
 
-// Sets each register to its start.
+// Sets each register to its start, or, where none is given, to an untrusted 0.
 #[no_mangle]
 pub extern "C" fn tracker_power_up(image: &[u8], state: &mut [u8]) -> u64
     ensures { λ r. ⌜ r ≡ outcomeCode (powerUpOf (now (image .entry)) (now (state .entry)) .refusal) ⌝ }

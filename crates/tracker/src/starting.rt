@@ -7,7 +7,8 @@ ghost use mathlib.Core.Path.{_≡_};
 ghost use Rattle.cycle.specs.Answers.{poweredUp};
 ghost use Rattle.cycle.specs.Calls.{powerUpOf};
 
-// Every register takes its start value, or 0 where none is given, with mark 0. What the state held is not looked at. It turns back with 1 to 8 and 10.
+// Every register takes its start value, trusted; or, where none is given, value 0 and mark 1. What the state held is not looked at. It turns back with 1 to 8
+// and 10.
 pub fn power_up(image: &[u8], state: &mut [u8]) -> Outcome
     ensures { λ r. ⌜ poweredUp r (now (state .exit)) ≡ powerUpOf (now (image .entry)) (now (state .entry)) ⌝ }
 {
