@@ -2,6 +2,7 @@
  *
  * The numbers of verdicts differ from those of the release before: clear is 65,535, where it was 0, and a flow is its net, where it was its net + 1.
  * Programs that read them by themselves have to be changed, and those that read them by the functions at the end of this file to be compiled anew.
+ * A register with start 2 wakes with byte 2, an untrusted 0, where it woke with 0, and its mark register in the doubled netlist starts at 1.
  *
  * An image holds a netlist: four u16 sizes, low byte first, namely N nets, I inputs, R registers and O outputs; then N kind bytes; then N entries of
  * three u16 operands a, b and c. Its length is 8 + 7 x N. A byte of a pin, a register or a net is value + 2 x mark; mark 1 is untrusted.
@@ -67,7 +68,8 @@ enum {
 /* Whether an image is a netlist. Answers 0, or one of the refusals 1 to 8. */
 uint64_t tracker_check(const uint8_t *image, size_t image_length);
 
-/* Sets each of the R registers to its start, or to 0 where none is given, trusted. Answers 0, or one of the refusals 1 to 8 and 10. */
+/* Sets each of the R registers to its start, trusted, or, where none is given, to byte 2, an untrusted 0, so that a clear verdict holds whatever such a
+ * register held. Answers 0, or one of the refusals 1 to 8 and 10. */
 uint64_t tracker_power_up(const uint8_t *image, size_t image_length,
                           uint8_t *state, size_t state_length);
 
@@ -95,8 +97,10 @@ uint64_t tracker_doubled_size(const uint8_t *image, size_t image_length);
 uint64_t tracker_doubled_kind(const uint8_t *image, size_t image_length,
                               size_t kind);
 
-/* Writes the doubled netlist, 8 + 7 x (its number of nets) bytes: tracker_image_length gives them for the answer of tracker_doubled_size. Answers 0, or
- * one of the refusals 1 to 8 and 15 to 17. */
+/* Writes the doubled netlist, 8 + 7 x (its number of nets) bytes: tracker_image_length gives them for the answer of tracker_doubled_size. Register j
+ * becomes two: 2j for its value, with the same start, and 2j + 1 for its mark, with start 1 where none is given and 0 otherwise. The values at outputs
+ * 2j and 2j + 1, byte % 2, are the value and the mark of the source's output j. Marks within the doubled netlist say nothing of the source: register 2j
+ * without a start wakes untrusted there. Answers 0, or one of the refusals 1 to 8 and 15 to 17. */
 uint64_t tracker_double(const uint8_t *image, size_t image_length,
                         uint8_t *buffer, size_t buffer_length);
 

@@ -20,8 +20,8 @@ static const uint8_t counter[50] = {
     1, 0, 1, 0, 0, 0,
 };
 
-/* Where operand b of net 5 stands: behind 8 bytes of sizes, 6 kinds, and 5 nets of 6 operand bytes, operand a comes first. */
-enum { POLICY_OF_NET_5 = 8 + 6 + 6 * 5 + 2 };
+/* Where operand b of nets 1 and 5 stands: behind 8 bytes of sizes, 6 kinds, and the 6 operand bytes of each net before, operand a comes first. */
+enum { START_OF_NET_1 = 8 + 6 + 6 * 1 + 2, POLICY_OF_NET_5 = 8 + 6 + 6 * 5 + 2 };
 
 static void print_bytes(const char *name, const uint8_t *bytes, size_t length)
 {
@@ -96,21 +96,32 @@ static void answers_that_are_not_clear(void)
     printf("check, read as a step: %s\n", tracker_is_clear(answer) ? "clear" : "not clear");
 }
 
-static void power_up_and_run(void)
+static void power_up_and_run(const uint8_t image[sizeof counter])
 {
     uint8_t state[1] = { 0 };
     uint8_t outputs[4] = { 0 };
     const uint8_t rows[4] = { 2, 0, 1, 0 };
 
     printf("power-up: ");
-    print_done(tracker_power_up(counter, sizeof counter, state, sizeof state));
+    print_done(tracker_power_up(image, sizeof counter, state, sizeof state));
     print_bytes("state", state, sizeof state);
 
     printf("\nrun on 2 0 1 0: ");
-    print_first_flow(tracker_run(counter, sizeof counter, 4, state, sizeof state, rows, sizeof rows, outputs, sizeof outputs));
+    print_first_flow(tracker_run(image, sizeof counter, 4, state, sizeof state, rows, sizeof rows, outputs, sizeof outputs));
     print_bytes("outputs", outputs, sizeof outputs);
     print_bytes("state", state, sizeof state);
     printf("\n");
+}
+
+/* Start 2 is none given: the register wakes untrusted. */
+static void run_without_start(void)
+{
+    uint8_t unknown[sizeof counter];
+
+    memcpy(unknown, counter, sizeof counter);
+    unknown[START_OF_NET_1] = 2;
+    printf("without a start, ");
+    power_up_and_run(unknown);
 }
 
 /* Prints the nets of the doubled netlist, the bytes of its image, and its nets of each kind, CONST to OUT. Answers the bytes, or 0 after a refusal. */
@@ -191,7 +202,8 @@ int main(void)
     printf("\n");
     power_up_and_step();
     answers_that_are_not_clear();
-    power_up_and_run();
+    power_up_and_run(counter);
+    run_without_start();
     length = double_counter(doubled);
     run_doubled(doubled, length);
     check_damaged();

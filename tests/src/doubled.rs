@@ -1,4 +1,4 @@
-//! The doubled netlist that the library writes, and its rows.
+//! The doubled netlist that the library writes, its rows and its states.
 
 use crate::call::Call;
 use crate::case::Case;
@@ -49,7 +49,19 @@ fn nets_of(image: &[u8]) -> Option<Vec<Net>> {
     nets.iter().all(|net| net.kind <= OUT).then_some(nets)
 }
 
-/// Row bytes for the doubled netlist: each byte v + 2 x t becomes v and t.
-pub fn split(rows: &[u8]) -> Vec<u8> {
-    rows.iter().flat_map(|byte| [byte % 2, byte / 2]).collect()
+/// A row or a state for the doubled netlist: each byte v + 2 x t becomes v and t.
+pub fn split(bytes: &[u8]) -> Vec<u8> {
+    bytes.iter().flat_map(|byte| [byte % 2, byte / 2]).collect()
+}
+
+/// The bytes v + 2 x t of bytes of the doubled netlist, two for one, whose plain
+/// values are v and t. Their own marks do not count.
+pub fn joined(bytes: &[u8]) -> Vec<u8> {
+    let pairs = bytes.chunks(2);
+    pairs.map(|pair| joined_byte(pair[0], pair[1])).collect()
+}
+
+/// The byte v + 2 x t of two bytes whose plain values are v and t.
+pub fn joined_byte(value: u8, mark: u8) -> u8 {
+    value % 2 + 2 * (mark % 2)
 }

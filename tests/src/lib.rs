@@ -28,6 +28,7 @@ pub mod printing;
 pub mod random;
 mod replay;
 mod tally;
+mod waking;
 
 pub use call::Name;
 pub use calls::{Calls, LIBRARY};

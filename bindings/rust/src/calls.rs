@@ -25,10 +25,11 @@ pub fn check(image: &[u8]) -> Result<(), Refusal> {
     answers::done(ffi::check(image))
 }
 
-/// Sets each register to power-up: its start value, or 0 where none is given,
-/// with mark 0.
+/// Sets each register to power-up: its start with mark 0, or value 0 with mark 1
+/// where none is given.
 ///
-/// The state has R bytes. What they were is not looked at.
+/// So a register without a start wakes untrusted, and a clear verdict holds
+/// whatever it held. The state has R bytes. What they were is not looked at.
 ///
 /// # Errors
 ///
@@ -39,11 +40,11 @@ pub fn check(image: &[u8]) -> Result<(), Refusal> {
 /// ```
 /// use tracker::{encode, kinds, power_up, Net};
 ///
-/// // One net, a REG that takes its own byte, with start 1.
-/// let image = encode(&[Net::new(kinds::REG, 0, 1, 0)]);
-/// let mut state = [255];
+/// // Two REGs that take their own bytes, one with start 1 and one without.
+/// let image = encode(&[Net::new(kinds::REG, 0, 1, 0), Net::new(kinds::REG, 1, 2, 0)]);
+/// let mut state = [255; 2];
 /// power_up(&image, &mut state)?;
-/// assert_eq!(state, [1]);
+/// assert_eq!(state, [1, 2]);
 /// # Ok::<(), tracker::Refusal>(())
 /// ```
 pub fn power_up(image: &[u8], state: &mut [u8]) -> Result<(), Refusal> {
@@ -166,6 +167,12 @@ pub fn doubled_size(image: &[u8]) -> Result<DoubledSize, Refusal> {
 ///
 /// The buffer has exactly the doubled image's length, the `bytes` of its
 /// [`doubled_size`].
+///
+/// Register j becomes two: 2j for its value, with the same start, and 2j + 1 for
+/// its mark, with start 1 where none is given and 0 otherwise. The values at
+/// outputs 2j and 2j + 1 are the value and the mark of the source's output j.
+/// Marks within the doubled netlist say nothing of the source: register 2j
+/// without a start wakes untrusted there.
 ///
 /// # Errors
 ///

@@ -8,7 +8,7 @@
 extern "C" {
     /// Whether an image is a netlist.
     pub fn tracker_check(image: *const u8, image_length: usize) -> u64;
-    /// Sets each register to its start.
+    /// Sets each register to its start, or to an untrusted 0 where none is given.
     pub fn tracker_power_up(
         image: *const u8,
         image_length: usize,
@@ -58,7 +58,7 @@ pub fn check(image: &[u8]) -> u64 {
     unsafe { tracker_check(image.as_ptr(), image.len()) }
 }
 
-/// Sets each register to its start.
+/// Sets each register to its start, or to an untrusted 0 where none is given.
 pub fn power_up(image: &[u8], state: &mut [u8]) -> u64 {
     // SAFETY: Each pointer and length are those of a slice, which is borrowed
     // until the call returns; the state is borrowed mutably, so it overlaps

@@ -6,7 +6,8 @@ pub const CONST: u8 = 0;
 /// An input, whose byte is one of the row.
 pub const INPUT: u8 = 1;
 /// A register. Operand a is the net that it takes at the clock, any net of the
-/// netlist; b is its start, 0, 1, or 2 for none given.
+/// netlist; b is its start, 0, 1, or 2 for none given. Without a start it wakes
+/// untrusted.
 pub const REG: u8 = 2;
 /// NOT of net a.
 pub const NOT: u8 = 3;

@@ -21,7 +21,7 @@
 //! | call | what it does | refusals |
 //! |---|---|---|
 //! | [`check`] | says whether an image is a netlist | 1 to 8 |
-//! | [`power_up`] | sets each register to its start | 1 to 8 and 10 |
+//! | [`power_up`] | sets each register to its start, or to an untrusted 0 where none is given | 1 to 8 and 10 |
 //! | [`step`] | takes one cycle | 1 to 8 and 10 to 14 |
 //! | [`run`] | takes K cycles | 1 to 14 |
 //! | [`doubled_size`] | says how big the doubled netlist gets | 1 to 8 and 15 |

@@ -1,16 +1,31 @@
-//! The doubled netlist runs beside its source and shows the value and the mark
-//! of every output: a property of the library alone.
+//! The doubled netlist runs beside its source and shows the values and marks of
+//! all nets, outputs and registers: a property of the library alone.
 
 use crate::bytes::tracked;
 use crate::call::Call;
 use crate::case::Case;
+use crate::coding::CLEAR;
 use crate::counts::Counts;
 use crate::cycles::few;
-use crate::doubled::{double, split, Doubled};
+use crate::doubled::{double, joined, joined_byte, split, Doubled};
 use crate::failure::{Failure, Outcome};
 use crate::netlists;
-use crate::replay::steps;
+use crate::replay::{steps, Cycle};
+use crate::waking::power_up;
 use tracker::{encode, Net};
+
+/// A netlist and its doubled netlist.
+struct Pair {
+    image: Vec<u8>,
+    counts: Counts,
+    doubled: Doubled,
+}
+
+/// The states from which the two start.
+struct Start {
+    source: Vec<u8>,
+    doubled: Vec<u8>,
+}
 
 pub fn run(case: &mut Case) -> Outcome {
     let nets = netlist(case);
@@ -20,10 +35,18 @@ pub fn run(case: &mut Case) -> Outcome {
     }
     let image = encode(&nets);
     let doubled = double(case, &image, &counts)?;
+    let pair = Pair {
+        image,
+        counts,
+        doubled,
+    };
     let k = few(&mut case.random);
-    let rows = tracked(&mut case.random, k * counts.inputs);
-    outputs_pair(case, &image, &counts, &doubled, k, &rows)?;
-    nets_pair(case, &image, &counts, &doubled, k.min(6), &rows)
+    let rows = tracked(&mut case.random, k * pair.counts.inputs);
+    for start in [power_ups(case, &pair)?, any_state(case, &pair)] {
+        outputs_pair(case, &pair, &start, k, &rows)?;
+        nets_pair(case, &pair, &start, k.min(6), &rows)?;
+    }
+    Ok(())
 }
 
 /// A small netlist, or one whose doubled netlist is as large as can be.
@@ -35,71 +58,80 @@ fn netlist(case: &mut Case) -> Vec<Net> {
     netlists::small(&mut case.random)
 }
 
-/// The state at power-up.
-fn power_up(case: &mut Case, image: &[u8], counts: &Counts) -> Result<Vec<u8>, Box<Failure>> {
-    let mut powered = Call::power_up(case.random.bytes(counts.registers));
-    case.ask(image, &mut powered)?;
-    Ok(powered.state)
+/// Each of the two at its own power-up. A value register without a start is
+/// marked there, so only plain values of the doubled netlist are compared.
+fn power_ups(case: &mut Case, pair: &Pair) -> Result<Start, Box<Failure>> {
+    let doubled = &pair.doubled;
+    Ok(Start {
+        source: power_up(case, &pair.image, pair.counts.registers)?,
+        doubled: power_up(case, &doubled.image, doubled.counts.registers)?,
+    })
 }
 
-/// Runs both netlists from power-up. In each cycle, outputs 2j and 2j + 1 of
-/// the doubled one have the value and the mark of output j as their values.
-fn outputs_pair(
-    case: &mut Case,
-    image: &[u8],
-    counts: &Counts,
-    doubled: &Doubled,
-    k: usize,
-    rows: &[u8],
-) -> Outcome {
-    let state = power_up(case, image, counts)?;
-    let outputs = case.random.bytes(k * counts.outputs);
-    let mut run = Call::run(k, state, rows.to_vec(), outputs);
-    case.ask(image, &mut run)?;
-    let state = power_up(case, &doubled.image, &doubled.counts)?;
-    let outputs = case.random.bytes(k * doubled.counts.outputs);
-    let mut beside = Call::run(k, state, split(rows), outputs);
-    let answer = case.ask(&doubled.image, &mut beside)?;
-    for (index, byte) in run.filled.iter().enumerate() {
-        let value = beside.filled[2 * index] % 2;
-        let mark = beside.filled[2 * index + 1] % 2;
-        if value + 2 * mark != *byte {
-            let property = format!(
-                "output byte {index} of the source is {byte}, but its pair is {value}, {mark}"
-            );
-            return Err(case.broken(&doubled.image, &beside, answer, property));
-        }
+/// Any state of bytes 0 to 3. Register j's value and mark start the doubled
+/// registers 2j and 2j + 1.
+fn any_state(case: &mut Case, pair: &Pair) -> Start {
+    let state = tracked(&mut case.random, pair.counts.registers);
+    Start {
+        doubled: split(&state),
+        source: state,
     }
-    Ok(())
 }
 
-/// Steps both netlists from power-up. In each cycle, the first and the last net
-/// of a group have the value and the mark of the group's net as their values.
-fn nets_pair(
-    case: &mut Case,
-    image: &[u8],
-    counts: &Counts,
-    doubled: &Doubled,
-    k: usize,
-    rows: &[u8],
-) -> Outcome {
-    let state = power_up(case, image, counts)?;
-    let source = steps(case, image, counts, k, &state, rows)?;
-    let state = power_up(case, &doubled.image, &doubled.counts)?;
+/// Runs both netlists. In each cycle, outputs 2j and 2j + 1 of the doubled one
+/// have the value and the mark of output j as their values, and so have the
+/// registers at the end. Since its OUTs are free, the doubled run is clear.
+fn outputs_pair(case: &mut Case, pair: &Pair, start: &Start, k: usize, rows: &[u8]) -> Outcome {
+    let outputs = case.random.bytes(k * pair.counts.outputs);
+    let mut run = Call::run(k, start.source.clone(), rows.to_vec(), outputs);
+    case.ask(&pair.image, &mut run)?;
+    let outputs = case.random.bytes(k * pair.doubled.counts.outputs);
+    let mut beside = Call::run(k, start.doubled.clone(), split(rows), outputs);
+    let answer = case.ask(&pair.doubled.image, &mut beside)?;
+    let property = if answer != k as u64 * 65_536 + CLEAR {
+        Some(String::from("a run of the doubled netlist is clear"))
+    } else {
+        difference("output byte", &run.filled, &joined(&beside.filled))
+            .or_else(|| difference("register", &run.state, &joined(&beside.state)))
+    };
+    match property {
+        Some(property) => Err(case.broken(&pair.doubled.image, &beside, answer, property)),
+        None => Ok(()),
+    }
+}
+
+/// Steps both netlists. In each cycle, the first and the last net of a group
+/// have the value and the mark of the group's net as their values, and after it
+/// the registers 2j and 2j + 1 have those of register j.
+fn nets_pair(case: &mut Case, pair: &Pair, start: &Start, k: usize, rows: &[u8]) -> Outcome {
+    let (counts, doubled) = (&pair.counts, &pair.doubled);
+    let source = steps(case, &pair.image, counts, k, &start.source, rows)?;
     let (twice, rows) = (&doubled.counts, split(rows));
-    let beside = steps(case, &doubled.image, twice, k, &state, &rows)?;
+    let beside = steps(case, &doubled.image, twice, k, &start.doubled, &rows)?;
     for (cycle, (one, two)) in source.iter().zip(&beside).enumerate() {
-        for (number, byte) in one.nets.iter().enumerate() {
-            let value = two.nets[counts.value_net(number)] % 2;
-            let mark = two.nets[counts.mark_net(number)] % 2;
-            if value + 2 * mark != *byte {
-                let property = format!(
-                    "in cycle {cycle} net {number} is {byte}, but its pair is {value}, {mark}"
-                );
-                let step = Call::step(two.state.clone(), Vec::new(), two.nets.clone());
-                return Err(case.broken(&doubled.image, &step, two.verdict, property));
-            }
+        let difference = difference("net", &one.nets, &shown(counts, two))
+            .or_else(|| difference("register", &one.state, &joined(&two.state)));
+        if let Some(text) = difference {
+            let property = format!("in cycle {cycle} {text}");
+            let step = Call::step(two.state.clone(), Vec::new(), two.nets.clone());
+            return Err(case.broken(&doubled.image, &step, two.verdict, property));
         }
     }
     Ok(())
+}
+
+/// The bytes of the source's nets, as a cycle of the doubled netlist shows them.
+fn shown(counts: &Counts, cycle: &Cycle) -> Vec<u8> {
+    let nets = &cycle.nets;
+    let byte = |net| joined_byte(nets[counts.value_net(net)], nets[counts.mark_net(net)]);
+    (0..counts.nets).map(byte).collect()
+}
+
+/// Where the bytes of the source are not those that the doubled netlist shows.
+fn difference(what: &str, source: &[u8], shown: &[u8]) -> Option<String> {
+    let index = (0..source.len()).find(|index| source[*index] != shown[*index])?;
+    let (byte, pair) = (source[index], shown[index]);
+    Some(format!(
+        "{what} {index} of the source is {byte}, but its pair shows {pair}"
+    ))
 }

@@ -2,7 +2,6 @@
 //! alone.
 
 use crate::bytes::tracked;
-use crate::call::Call;
 use crate::case::Case;
 use crate::counts::Counts;
 use crate::cycles::few;
@@ -10,6 +9,7 @@ use crate::drawing;
 use crate::failure::Outcome;
 use crate::netlists;
 use crate::replay::{same_as_run, steps};
+use crate::waking::power_up;
 use tracker::encode;
 
 pub fn run(case: &mut Case) -> Outcome {
@@ -18,9 +18,7 @@ pub fn run(case: &mut Case) -> Outcome {
     let image = encode(&nets);
     let mut state = tracked(&mut case.random, counts.registers);
     if case.random.chance(1, 2) {
-        let mut powered = Call::power_up(state);
-        case.ask(&image, &mut powered)?;
-        state = powered.state;
+        state = power_up(case, &image, counts.registers)?;
     }
     let k = few(&mut case.random);
     let mut run = drawing::run(&mut case.random, &counts, k, &state);

@@ -5,23 +5,6 @@ use tests::coding::{number_of, CLEAR};
 use tests::{Calls, LIBRARY};
 use tracker::kinds::REG;
 
-/// Steps without a clock: the state stays as it was.
-pub const NOT_CLOCKED: Calls = Calls {
-    step: step_not_clocked,
-    ..LIBRARY
-};
-
-#[rustfmt::skip]
-unsafe extern "C" fn step_not_clocked(
-    image: *const u8, il: usize, state: *mut u8, sl: usize,
-    row: *const u8, rl: usize, nets: *mut u8, nl: usize,
-) -> u64 {
-    let before = bytes(state, sl).to_vec();
-    let answer = (LIBRARY.step)(image, il, state, sl, row, rl, nets, nl);
-    bytes_mut(state, sl).copy_from_slice(&before);
-    answer
-}
-
 /// Clocks the registers one after another, so that one sees another's new byte.
 pub const CLOCKED_IN_TURN: Calls = Calls {
     step: step_clocked_in_turn,

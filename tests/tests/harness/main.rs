@@ -10,6 +10,7 @@ mod order;
 mod parts;
 mod rules;
 mod table;
+mod waking;
 
 use table::{StandIn, STAND_INS};
 use tests::{named, run_case, run_family, Failure, Family, Tally, FAMILIES, LIBRARY};

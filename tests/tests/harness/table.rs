@@ -1,7 +1,7 @@
 //! All broken stand-ins, with the families that have to catch them and what
 //! their reports have to show.
 
-use crate::{answers, cycles, doubling, figures, lent_bytes, order, rules};
+use crate::{answers, cycles, doubling, figures, lent_bytes, order, rules, waking};
 use tests::{Calls, Failure, Spot};
 
 pub struct StandIn {
@@ -76,7 +76,7 @@ fn image(failure: &Failure) -> bool {
 }
 
 #[rustfmt::skip]
-pub const STAND_INS: [StandIn; 35] = [
+pub const STAND_INS: [StandIn; 39] = [
     stand_in("accepts wrong counts", answers::ACCEPTS_WRONG_COUNTS,
         &["operands", "damaged", "noise", "lists"], answer),
     stand_in("answers with the next net", answers::NEXT_PLACE,
@@ -110,8 +110,6 @@ pub const STAND_INS: [StandIn; 35] = [
         &["exhaustive", "good", "large", "lists", "pairing", "steps"], lent_byte),
     stand_in("refuses and writes", lent_bytes::REFUSED_WRITES,
         &["lent", "lists", "two_runs"], refused),
-    stand_in("does not clock", cycles::NOT_CLOCKED,
-        &["exhaustive", "good", "large", "lists", "two_runs", "steps"], lent_byte),
     stand_in("clocks one register after another", cycles::CLOCKED_IN_TURN,
         &["exhaustive", "good", "large", "lists", "two_runs", "steps"], lent_byte),
     stand_in("stops the outputs at the first flow", cycles::STOPS_AT_FLOW,
@@ -126,6 +124,16 @@ pub const STAND_INS: [StandIn; 35] = [
         &["good", "large", "lists", "pairing", "two_runs"], anything),
     stand_in("clears XOR of a net with itself", rules::OWN_XOR_IS_CLEAR,
         &["exhaustive", "good", "large", "lists", "pairing"], anything),
+    stand_in("trusts a register without a start", waking::WAKES_TRUSTED,
+        &["exhaustive", "good", "large", "lists", "pairing", "two_runs"], lent_byte),
+    stand_in("wakes a register without a start as 1", waking::WAKES_AS_1,
+        &["exhaustive", "good", "large", "lists"], lent_byte),
+    stand_in("starts every mark register at 0", waking::MARKS_AT_0,
+        &["exhaustive", "good", "lists", "doubling", "pairing", "two_runs"], lent_byte),
+    stand_in("gives some mark registers no start", waking::MARKS_UNKNOWN,
+        &["exhaustive", "good", "lists", "doubling", "pairing", "two_runs"], lent_byte),
+    stand_in("starts every mark register at 1", waking::MARKS_AT_1,
+        &["exhaustive", "good", "lists", "doubling", "pairing"], lent_byte),
     stand_in("doubles with one wrong byte", doubling::ONE_BYTE_WRONG,
         &["exhaustive", "good", "lists", "doubling", "pairing"], lent_byte),
     stand_in("doubles to CONSTs", doubling::CONSTS_ONLY,

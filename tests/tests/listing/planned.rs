@@ -9,20 +9,35 @@ use crate::program::{list, Pieces};
 use tests::bytes::tracked;
 use tests::random::Random;
 use tracker::kinds::{CONST, INPUT, OUT, REG};
-use tracker::{encode, Net, MOST_NETS};
+use tracker::{encode, operand_place, Net, MOST_NETS};
 
 const PIECES: [usize; 4] = [1, 7, 4095, 1 << 20];
+
+/// The program prints these lines of an image on the rows 2, 0, 1, 0.
+fn prints(image: &[u8], lines: &str) {
+    for size in PIECES {
+        let ended = list(Some(image), &[2, 0, 1, 0], Pieces::of(size));
+        assert_eq!(String::from_utf8_lossy(&ended.lines), lines);
+        assert_eq!(ended.said, "");
+        assert!(ended.status.success());
+    }
+}
 
 /// The example at the end of document 01, word for word.
 #[test]
 fn the_counter_of_the_document() {
     let lines = "0 0 clear\n1 3 flow 5\n2 2 flow 5\n3 0 clear\nend 4\n";
-    for size in PIECES {
-        let ended = list(Some(&counter()), &[2, 0, 1, 0], Pieces::of(size));
-        assert_eq!(String::from_utf8_lossy(&ended.lines), lines);
-        assert_eq!(ended.said, "");
-        assert!(ended.status.success());
-    }
+    prints(&counter(), lines);
+}
+
+/// Its register wakes as an untrusted 0, so that there is a flow in cycle 0. The
+/// other lines are the same.
+#[test]
+fn the_counter_without_a_start() {
+    let mut image = counter();
+    image[operand_place(6, 1, 1)] = 2;
+    let lines = "0 2 flow 5\n1 3 flow 5\n2 2 flow 5\n3 0 clear\nend 4\n";
+    prints(&image, lines);
 }
 
 #[test]

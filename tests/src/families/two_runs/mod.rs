@@ -1,18 +1,19 @@
-//! The two-run property: two lists of calls whose rows agree in marks and
-//! unmarked values cannot be told apart by what is unmarked. A property of the
-//! library alone.
+//! The two-run property: two lists of calls, from states and with rows that agree
+//! in marks and unmarked values, cannot be told apart by what is unmarked. A
+//! property of the library alone.
 
 mod on_doubled;
 mod on_source;
+mod starting;
 
 use crate::bytes::agreeing;
 use crate::call::Call;
 use crate::case::Case;
 use crate::counts::Counts;
 use crate::cycles::few;
-use crate::doubled::{double, Doubled};
+use crate::doubled::double;
 use crate::drawing;
-use crate::failure::{Failure, Outcome};
+use crate::failure::Outcome;
 use crate::netlists;
 use tracker::encode;
 
@@ -31,10 +32,7 @@ pub fn run(case: &mut Case) -> Outcome {
     } else {
         None
     };
-    let mut lists = [
-        powered_up(case, &image, &counts, &doubled)?,
-        powered_up(case, &image, &counts, &doubled)?,
-    ];
+    let mut lists = starting::lists(case, &image, &counts, &doubled)?;
     for _ in 0..case.random.between(3, 14) {
         let calls = two_calls(case, &counts, &lists);
         let accepted = on_source::calls_agree(case, &image, &counts, &calls, &mut lists)?;
@@ -43,26 +41,6 @@ pub fn run(case: &mut Case) -> Outcome {
         }
     }
     Ok(())
-}
-
-/// A list at its start. Its states are set by power-up.
-fn powered_up(
-    case: &mut Case,
-    image: &[u8],
-    counts: &Counts,
-    doubled: &Option<Doubled>,
-) -> Result<List, Box<Failure>> {
-    let mut powered = Call::power_up(case.random.bytes(counts.registers));
-    case.ask(image, &mut powered)?;
-    let mut doubled_powered = Call::power_up(Vec::new());
-    if let Some(doubled) = doubled {
-        doubled_powered.state = case.random.bytes(doubled.counts.registers);
-        case.ask(&doubled.image, &mut doubled_powered)?;
-    }
-    Ok(List {
-        state: powered.state,
-        doubled_state: doubled_powered.state,
-    })
 }
 
 /// Two steps, or two runs with the same k. Their rows agree, and their buffers

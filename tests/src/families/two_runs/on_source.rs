@@ -24,7 +24,8 @@ pub fn calls_agree(
 ) -> Result<bool, Box<Failure>> {
     let [mut one, mut other] = calls.clone();
     let answers = [case.ask(image, &mut one)?, case.ask(image, &mut other)?];
-    if let Some(property) = disagreement(counts, &one, &other, answers) {
+    let good = is_good(counts, &calls[0]);
+    if let Some(property) = disagreement(good, &one, &other, answers) {
         return Err(case.broken(image, &other, answers[1], property));
     }
     let accepted = number_of(answers[0]) == 0;
@@ -36,10 +37,15 @@ pub fn calls_agree(
     Ok(accepted)
 }
 
+/// A call has a good k, right lengths and good bytes.
+fn is_good(counts: &Counts, call: &Call) -> bool {
+    let mut bytes = call.state.iter().chain(&call.rows);
+    counts.fit(call) && bytes.all(|byte| *byte < 4)
+}
+
 /// What does not hold of two calls that were made.
-fn disagreement(counts: &Counts, one: &Call, other: &Call, answers: [u64; 2]) -> Option<String> {
+fn disagreement(good: bool, one: &Call, other: &Call, answers: [u64; 2]) -> Option<String> {
     let accepted = number_of(answers[0]) == 0;
-    let good = counts.fit(one) && one.rows.iter().all(|byte| *byte < 4);
     if answers[0] != answers[1] {
         return Some(format!("the first list's answer is {:#x}", answers[0]));
     }
