@@ -34,19 +34,25 @@ pub fn write_files(mix: Mix, nets: usize, seed: u64, k: usize, folder: &Path) ->
     fs::write(folder.join("rows.hex"), vectors(&bytes.rows, z.inputs, k))?;
     fs::write(folder.join("outputs.hex"), vectors(&outputs, z.outputs, k))?;
     fs::write(folder.join("sizes.vh"), sizes(&bytes, k))?;
-    print!("{} nets needed by an OUT or REG, ", needed(image));
-    print!("{} of {} REGs ", marked(&starts(image)), z.registers);
-    print!("without a start, {} of ", marked(&outputs));
-    println!("{} output bytes marked", outputs.len());
+    print_about(image, &outputs);
     Ok(())
 }
 
+/// Prints what is to be known of a netlist and its outputs.
+fn print_about(image: Image, outputs: &[u8]) {
+    let starts = starts(image);
+    let (unknown, marked) = (count_marked(&starts), count_marked(outputs));
+    print!("{} nets needed by an OUT or REG, ", needed(image));
+    print!("{unknown} of {} REGs without a start, ", starts.len());
+    println!("{marked} of {} output bytes marked", outputs.len());
+}
+
 /// How many bytes are marked.
-fn marked(bytes: &[u8]) -> usize {
+fn count_marked(bytes: &[u8]) -> usize {
     bytes.iter().filter(|byte| **byte >= 2).count()
 }
 
-/// The widths of the ports, and the registers at power-up.
+/// The widths of the ports, and the marks and values of the registers at power-up.
 pub fn sizes(bytes: &Bytes, k: usize) -> String {
     let z = bytes.sizes;
     let registers = z.registers.max(1);
@@ -58,15 +64,15 @@ pub fn sizes(bytes: &Bytes, k: usize) -> String {
     text + &format!("`define START {}'h{start}\n", 2 * registers)
 }
 
-/// The byte of each register at power-up. It is worked out from the image, so that
-/// the tools do not start with what the library's power-up gives.
+/// The byte of each register at power-up, worked out from the image, so that the
+/// tools do not take the library's word for it.
 fn starts(image: Image) -> Vec<u8> {
     let registers = image.nets().filter(|net| net.kind == REG);
     registers.map(|net| start_byte(net.operands[1])).collect()
 }
 
-/// The byte of a register at power-up: a start of 0 or 1 is the value, with mark 0;
-/// with a start of 2, which is none, the value is 0 and the mark 1.
+/// The byte of a register at power-up. A start of 0 or 1 is its value, and its mark
+/// is 0. A start of 2 says that none is given: the value is 0 and the mark 1.
 fn start_byte(start: u16) -> u8 {
     let (value, mark) = (start == 1, start == 2);
     u8::from(value) + 2 * u8::from(mark)

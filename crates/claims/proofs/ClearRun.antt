@@ -1,4 +1,4 @@
--- A clear run stays clear whatever the values of marked pins.
+-- A clear run stays clear whatever the values of marked pins and marked registers, from any state.
 use Prim.Native.Nat.{ℕ, zero, suc, _+_, _*_, _/_, _%_, _<_}
 use native.Mathlib.Nat.{suc-mul}
 use native.Mathlib.Omega.{arith}
@@ -28,7 +28,7 @@ use Rattle.claims.proofs.NetBytes.{net-bytes}
 use Rattle.claims.proofs.Verdicts.{verdicts, first-flows}
 use Rattle.claims.proofs.TwoRun.{demand3}
 use Rattle.claims.proofs.TwoSteps.{marks-agree, agree-marks}
-use Rattle.claims.proofs.OneRun.{run-taken}
+use Rattle.claims.proofs.Taken.{run-taken}
 use Rattle.claims.proofs.OneCall.{same-one}
 
 -- OUTPUTS that agree are equal where the first is unmarked

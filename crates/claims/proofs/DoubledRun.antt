@@ -6,24 +6,23 @@ use mathlib.Core.List.{List, [], _∷_, _++_, map, map-append, append-nil, Foral
 use mathlib.Core.Option.{none}
 use lib.ListN.{length, getD, List·getD-map}
 use Rattle.image.specs.Image.{sizesOf, netsOf}
-use Rattle.refusals.specs.declared.answer.Refusal.{Refusal}
 use Rattle.checking.proofs.Checked.{check-none}
 use Rattle.cycle.specs.Cycle.{FirstFlow, outputsFrom}
-use Rattle.cycle.specs.Calls.{Answer, done, refused, Stepped, runOf, runRefusal}
-use Rattle.cycle.proofs.Calls.{either-way, run-none}
+use Rattle.cycle.specs.Calls.{Answer, done, Stepped, runOf, runRefusal}
+use Rattle.cycle.proofs.Calls.{run-none}
 use Rattle.groups.specs.Groups.{split}
-use Rattle.doubling.specs.Doubling.{doubleRefusal, doubleOf}
-use Rattle.doubling.proofs.Checks.{doubled-sizes, double-none, double-refused, double-accepted}
+use Rattle.doubling.specs.Doubling.{doubleOf}
+use Rattle.doubling.proofs.Checks.{doubled-sizes, double-none, double-accepted}
 use Rattle.doubling.proofs.Simulation.{split-append}
 use Rattle.claims.specs.Steps.{stepsOf, outputsIn}
-use Rattle.claims.specs.History.{run, ran, CallAnswer, CallResult, refusalOf, accepted, Finished, AllFinished, Made, AllMade}
+use Rattle.claims.specs.History.{run, ran, CallResult, callResult, refusalOf, accepted, Finished, AllFinished, AllMade}
 use Rattle.claims.specs.Pairing.{Again, run-again, shown, Shows, Paired, AllPaired}
 use Rattle.claims.specs.InBytes.{ShowsInTwo, RunsShow, DoubledShows}
-use Rattle.claims.proofs.Unchanged.{not-some}
-use Rattle.claims.proofs.History.{accepted-none}
+use Rattle.claims.proofs.Steps.{run-is-steps}
+use Rattle.claims.proofs.History.{made-run, made-is, accepted-none}
 use Rattle.claims.proofs.Splitting.{split-value, split-mark, in-two}
 use Rattle.claims.proofs.Pairing.{demand2}
-use Rattle.claims.proofs.OneRun.{powered, run-taken, run-ends, run-result}
+use Rattle.claims.proofs.Taken.{powered, run-taken, double-taken}
 
 -- CYCLES that show the same: so do the outputs of all of them
 outputs-shown : (s d : List ℕ) {os os′ : List Stepped} → Forall₂ (Shows s d) os os′ → map (λ x. x % 2) (outputsIn d os′) ≡ split (outputsIn s os)
@@ -37,34 +36,30 @@ outputs-shown s d (Forall₂·cons {a = o} {b = o′} {l₁ = os} {l₂ = os′}
 in-one : {A B : Type 0} {R : A → B → Type 0} {xs : List A} {ys : List B} → Forall₂ R (xs ++ []) (ys ++ []) → Forall₂ R xs ys
 in-one {xs = xs} {ys} h = rw (append-nil xs, append-nil ys) at h
 
--- ONE CALL, a run
-record OneMade (s st : List ℕ) (k : ℕ) (rows outputs : List ℕ) (all : List Stepped) (f : FirstFlow) : Type 0 where
+-- ONE CALL, a run that is done
+record OneMade (s st : List ℕ) (k : ℕ) (rows outputs : List ℕ) (all : List Stepped) : Type 0 where
   cycles : all ≡ stepsOf s st k rows ++ []
   outs : runOf s st k rows outputs .outputs ≡ outputsIn s (stepsOf s st k rows)
-  answer : runOf s st k rows outputs .answer ≡ done f
 
-one-made : (s st : List ℕ) (k : ℕ) (rows outputs : List ℕ) {ms : List CallResult} {all : List Stepped} (f : FirstFlow)
-    → AllMade s st (run k rows outputs ∷ []) ms all → runOf s st k rows outputs .answer ≡ done f → OneMade s st k rows outputs all f
-one-made s st k rows outputs f (AllMade.cons p AllMade.nil) h =
-    let r = run-result s st k rows outputs p (run-ends s st k rows outputs p h) .0 in
-    record { cycles = rw (r .cycles); outs = r .steps .outs; answer = h }
+one-made : (s st : List ℕ) (k : ℕ) (rows outputs : List ℕ) {ms : List CallResult} {all : List Stepped} {f : FirstFlow}
+    → AllMade s st (run k rows outputs ∷ []) ms all → runOf s st k rows outputs .answer ≡ done f → OneMade s st k rows outputs all
+one-made s st k rows outputs (AllMade.cons p AllMade.nil) h =
+    let t = run-taken s st k rows outputs h in
+    let a = run-is-steps s st k rows outputs t in
+    record { cycles = rw (made-is p, made-run s st k rows outputs t, a .cycles); outs = a .outs }
 
 -- a run that is finished has a first flow
 record Some (a : Answer FirstFlow) : Type 0 where
   first : FirstFlow
   is : a ≡ done first
 
-not-finished : {a : CallAnswer} {r : Refusal} → Finished a → a ≡ ran (refused r) → ⊥
-not-finished Finished.a-step e = let z : _≡_ {A = ℕ} 0 1 = cc in omega arith
-not-finished Finished.a-run e = let z : _≡_ {A = ℕ} 0 1 = cc in omega arith
-
-run-finished : (s st : List ℕ) (k : ℕ) (rows outputs : List ℕ) {m : CallResult} → Made s st (run k rows outputs) m → Finished (m .answer) → Some (runOf s st k rows outputs .answer)
-run-finished s st k rows outputs (Made.run-refused e h) t = absurd (not-finished t (ap ran h))
-run-finished s st k rows outputs (Made.run-done {f = f} e h a) t = record { first = f; is = rw (← e) h }
+some-flow : {a : Answer FirstFlow} → Finished (ran a) → Some a
+some-flow (Finished.a-run {f}) = record { first = f; is = refl }
 
 one-finished : (s st : List ℕ) (k : ℕ) (rows outputs : List ℕ) {ms : List CallResult} {all : List Stepped}
     → AllMade s st (run k rows outputs ∷ []) ms all → AllFinished ms → Some (runOf s st k rows outputs .answer)
-one-finished s st k rows outputs (AllMade.cons p AllMade.nil) (AllFinished.cons t u) = run-finished s st k rows outputs p t
+unfolding callResult
+one-finished s st k rows outputs (AllMade.cons p AllMade.nil) (AllFinished.cons t u) = some-flow (rw (made-is p) at t)
 
 -- bytes whose values are these: one of them
 plain-at : (xs : List ℕ) {ys : List ℕ} → map (λ x. x % 2) xs ≡ ys → (j : ℕ) → getD xs j 0 % 2 ≡ getD ys j 0
@@ -76,8 +71,8 @@ shows-run : (s d st st′ : List ℕ) (k : ℕ) (rows outputs outputs′ : List 
     → ShowsInTwo (runOf s st k rows outputs) (runOf d st′ k (split rows) outputs′)
 shows-run s d st st′ k rows outputs outputs′ f p h =
     let again = one-finished d st′ k (split rows) outputs′ (p .made-again) (p .finished) in
-    let m = one-made s st k rows outputs f (p .made) h in
-    let n = one-made d st′ k (split rows) outputs′ (again .first) (p .made-again) (again .is) in
+    let m = one-made s st k rows outputs (p .made) h in
+    let n = one-made d st′ k (split rows) outputs′ (p .made-again) (again .is) in
     let all = outputs-shown s d (in-one (rw (m .cycles, n .cycles) at (p .cycles))) in
     let e : map (λ x. x % 2) (runOf d st′ k (split rows) outputs′ .outputs) ≡ split (runOf s st k rows outputs .outputs) = rw (m .outs, n .outs) all in
     let byte = plain-at (runOf d st′ k (split rows) outputs′ .outputs) e in
@@ -101,13 +96,9 @@ runs-show {s} {d} {st} {st′} e again k rows rows′ outputs outputs′ f t l h
     let size : length outputs′ ≡ k * sizesOf d .outputs = rw e (l ∙ ap (λ m. 2 * m) o ∙ sym twice) in
     rw (in-two rows rows′ t) (shows-run s d st st′ k rows outputs outputs′ f (again _ _ (the-run s st d k rows outputs outputs′ r size)) h)
 
--- DOUBLING that is not refused
-doubled : (s buf : List ℕ) → doubleOf s buf .refusal ≡ none → doubleRefusal s buf ≡ none
-doubled s buf h = either-way (doubleRefusal s buf) (λ e. e) (λ r e. absurd (not-some (sym (rw (double-refused s buf r e) at h))))
-
 pub doubled-shows : DoubledShows
 doubled-shows s buf w =
-    let g = doubled s buf w in
+    let g = double-taken s buf w in
     let n = double-none s buf .0 g in
     let d = doubleOf s buf .buffer in
     let pairs = demand2 s (check-none s .1 (n .0)) (n .1) buf (n .2) in

@@ -1,6 +1,6 @@
 -- What a call of a list gives, where it is refused and where it is accepted.
 use Prim.Native.Nat.{ℕ}
-use mathlib.Core.Path.{_≡_, refl, sym, ap}
+use mathlib.Core.Path.{_≡_, refl, sym, ap, _∙_}
 use mathlib.Core.List.{List, [], _∷_, map}
 use mathlib.Core.Option.{none, some}
 use Rattle.image.specs.Image.{sizesOf, netsOf}
@@ -8,7 +8,8 @@ use Rattle.refusals.specs.declared.answer.Refusal.{Refusal}
 use Rattle.cycle.specs.Cycle.{cycleOf, cyclesOf, outputsOf, stateAfter, firstFlow}
 use Rattle.cycle.specs.Calls.{done, refused, asStep, stepRefusal, asRun, runRefusal}
 use Rattle.cycle.proofs.Calls.{either-way, step-accepted, step-refused, run-accepted, run-refused}
-use Rattle.claims.specs.History.{Call, step, run, lent, refusalOf, CallAnswer, stepped, ran, callResult, history, accepted, cyclesIn, TurnedBack, Made, AllMade, Histories}
+use Rattle.claims.specs.History.{Call, step, run, lent, refusalOf, CallAnswer, stepped, ran, callResult, history, accepted, cyclesIn, CallResult, TurnedBack, Made, AllMade, Histories}
+use Rattle.claims.proofs.Unchanged.{not-refused}
 use Rattle.claims.proofs.Steps.{run-is-steps}
 
 unfoldable pub turned : Call → Refusal → CallAnswer
@@ -53,10 +54,33 @@ made s st (run k rows outputs) =
     (λ h. rw (callResult, h) (Made.run-done refl (ap (λ o. o .answer) (run-accepted s st k rows outputs h)) (run-is-steps s st k rows outputs h)))
     (λ r h. let e = run-refused s st k rows outputs r h in rw (callResult, h, e) (Made.run-refused (sym e) refl))
 
-pub histories : Histories
+-- and it gives nothing else
+pub made-is : {s st : List ℕ} {c : Call} {m : CallResult} → Made s st c m → m ≡ callResult s st c
+unfolding turned lent refusalOf asStep asRun
+made-is {s} {st} (Made.step-refused {row} {nets} e h) =
+    either-way (stepRefusal s st row nets)
+    (λ n. absurd (not-refused (rw (e, step-accepted s st row nets n) at h)))
+    (λ r n. rw (made-refused s st (step row nets) r n, e, step-refused s st row nets r n))
+made-is {s} {st} (Made.step-done {row} {nets} e h) =
+    either-way (stepRefusal s st row nets)
+    (λ n. rw (made-step s st row nets n, e, step-accepted s st row nets n))
+    (λ r n. absurd (not-refused (sym (rw (e, step-refused s st row nets r n) at h))))
+made-is {s} {st} (Made.run-refused {k} {rows} {outputs} e h) =
+    either-way (runRefusal s st k rows outputs)
+    (λ n. absurd (not-refused (rw (e, run-accepted s st k rows outputs n) at h)))
+    (λ r n. rw (made-refused s st (run k rows outputs) r n, e, run-refused s st k rows outputs r n))
+made-is {s} {st} (Made.run-done {k} {rows} {outputs} e h a) =
+    either-way (runRefusal s st k rows outputs)
+    (λ n. rw (made-run s st k rows outputs n, a .cycles, e, run-accepted s st k rows outputs n))
+    (λ r n. absurd (not-refused (sym (rw (e, run-refused s st k rows outputs r n) at h))))
+
+pub all-made : (s st : List ℕ) (cs : List Call) → AllMade s st cs (history s st cs) (cyclesIn (history s st cs))
 unfolding history cyclesIn
-histories s st [] = AllMade.nil
-histories s st (c ∷ cs) = AllMade.cons (made s st c) (histories s (callResult s st c .state) cs)
+all-made s st [] = AllMade.nil
+all-made s st (c ∷ cs) = AllMade.cons (made s st c) (all-made s (callResult s st c .state) cs)
+
+pub histories : Histories
+histories = record { made = all-made; one-result = λ p q. made-is p ∙ sym (made-is q) }
 
 -- the calls that are not refused
 pub accepted-none : (s st : List ℕ) (c : Call) (cs : List Call) → refusalOf s st c ≡ none → accepted s st (c ∷ cs) ≡ c ∷ accepted s (callResult s st c .state) cs

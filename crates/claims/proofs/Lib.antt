@@ -5,6 +5,7 @@ pub mod Examples
 pub mod Accepted
 pub mod InTurn
 pub mod Unchanged
+pub mod Taken
 pub mod Refused
 pub mod NetBytes
 pub mod PowerUp
@@ -20,7 +21,6 @@ pub mod Pairing
 pub mod TwoRun
 pub mod OneCall
 pub mod TwoSteps
-pub mod OneRun
 pub mod ClearRun
 pub mod Waking
 pub mod UnknownStart

@@ -19,7 +19,7 @@ use Rattle.doubling.proofs.Checks.{doubled-sizes, doubled-checked, double-none,
 use Rattle.doubling.proofs.Runs.{Carries, split-carries, Doubles, state-doubles, ready-again, cycle-doubles, cycles-double, starts-carry}
 use Rattle.claims.specs.History.{Call, refusalOf, callResult, history, accepted, cyclesIn, Finished, AllFinished}
 use Rattle.claims.specs.Pairing.{Again, step-again, run-again, shown, Shows, AllPaired, Demand2}
-use Rattle.claims.proofs.History.{made-refused, made-step, made-run, histories, accepted-none, accepted-some}
+use Rattle.claims.proofs.History.{made-refused, made-step, made-run, all-made, accepted-none, accepted-some}
 
 doubles-show : (s : List ℕ) (c c′ : Cycle) → Doubles s c c′ → Shows s (doubledImage s) (asStep c) (asStep c′)
 unfolding shown asStep
@@ -99,7 +99,7 @@ module _ (s : List ℕ) (c : Checked s) (few : doubledSize (netsOf s) ≤ 8192) 
   pub pairs : {st st′ : List ℕ} → Carries st st′ → AllPaired s d st st′
   pairs {st} {st′} t cs cs′ p =
       let r = calls-again cs st st′ cs′ t p in
-      record { made = histories s st cs; made-again = histories d st′ cs′; finished = r .finished; cycles = r .cycles }
+      record { made = all-made s st cs; made-again = all-made d st′ cs′; finished = r .finished; cycles = r .cycles }
 
   -- each from its own power-up
   powered-pairs : (a b : List ℕ) → length a ≡ stateLength (sizesOf s) → length b ≡ stateLength (sizesOf d)

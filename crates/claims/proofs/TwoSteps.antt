@@ -1,9 +1,8 @@
 -- Two steps that are lent states and rows which differ at most in the values of marked bytes.
 use Prim.Native.Nat.{ℕ, _≤_}
 use native.Mathlib.Omega.{arith}
-use mathlib.Core.Path.{_≡_, sym}
+use mathlib.Core.Path.{_≡_}
 use mathlib.Core.List.{List, [], _∷_, Forall₂·nil, Forall₂·cons}
-use mathlib.Core.Option.{none}
 use lib.Dec.{lit≤}
 use lib.ListN.{getD}
 use Rattle.gates.specs.Relations.{same, Agree}
@@ -11,14 +10,13 @@ use Rattle.gates.proofs.Meaning.{agree-means, relations-mean}
 use Rattle.image.proofs.Pairs.{pairs-getD, pairs-length, pairs-places}
 use Rattle.refusals.proofs.Refusals.{Codes}
 use Rattle.checking.proofs.Checked.{check-none}
-use Rattle.cycle.specs.Cycle.{Verdict}
-use Rattle.cycle.specs.Calls.{done, stepRefusal, stepOf}
-use Rattle.cycle.proofs.Calls.{either-way, step-none, step-refused}
+use Rattle.cycle.specs.Calls.{stepOf}
+use Rattle.cycle.proofs.Calls.{step-none}
 use Rattle.claims.specs.History.{stepped, step, callResult, Finished}
 use Rattle.claims.specs.TwoRun.{Matched}
 use Rattle.claims.specs.InBytes.{SameMarks, StepsAgree}
-use Rattle.claims.proofs.Unchanged.{not-refused}
 use Rattle.claims.proofs.TwoRun.{demand3}
+use Rattle.claims.proofs.Taken.{step-taken}
 use Rattle.claims.proofs.OneCall.{same-one}
 
 -- BYTES that differ at most in the values of marked ones are bytes that agree, where they are codes
@@ -37,11 +35,6 @@ agree-marks a =
       marks = λ i l. agree-means (pairs-getD i 0 same a) .0;
       values = λ i l. agree-means (pairs-getD i 0 same a) .1;
     }
-
--- a step that is done is accepted
-step-taken : (s st row nets : List ℕ) {v : Verdict} → stepOf s st row nets .answer ≡ done v → stepRefusal s st row nets ≡ none
-step-taken s st row nets h =
-    either-way (stepRefusal s st row nets) (λ e. e) (λ r e. absurd (not-refused (sym (rw (step-refused s st row nets r e) at h))))
 
 pub steps-agree : StepsAgree
 unfolding callResult

@@ -108,6 +108,7 @@ pub data AllMade (s : List ℕ) : (st : List ℕ) → List Call → (ms : List C
       {st : List ℕ} {c : Call} {cs : List Call} {m : CallResult} {ms : List CallResult} {rest : List Stepped}
       → Made s st c m → AllMade s (m .state) cs ms rest → AllMade s st (c ∷ cs) (m ∷ ms) (m .cycles ++ rest)
 
--- what `history` and `cyclesIn` give is that, of every list of calls; proved as `histories`
-abbrev pub Histories : Type 0
-Histories = (s st : List ℕ) (cs : List Call) → AllMade s st cs (history s st cs) (cyclesIn (history s st cs))
+-- what `history` and `cyclesIn` give is that, of every list of calls; and a call gives one result. Proved as `histories`
+pub record Histories : Type 0 where
+  pub made : (s st : List ℕ) (cs : List Call) → AllMade s st cs (history s st cs) (cyclesIn (history s st cs))
+  pub one-result : {s st : List ℕ} {c : Call} {m n : CallResult} → Made s st c m → Made s st c n → m ≡ n

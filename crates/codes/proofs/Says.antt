@@ -23,7 +23,7 @@ use Rattle.claims.specs.Verdicts as judged
 use Rattle.claims.specs.Verdicts.{MarkedOutput, Judged, First}
 use Rattle.claims.specs.InBytes.{clearAfter}
 use Rattle.claims.proofs.Unchanged.{not-refused}
-use Rattle.claims.proofs.OneRun.{powered, run-taken}
+use Rattle.claims.proofs.Taken.{powered, run-taken}
 use Rattle.claims.proofs.ClearRun.{cycles-length}
 use Rattle.claims.proofs.Promised.{promised}
 use Rattle.codes.specs.Codes.{outcomeCode, verdictCode, firstFlowCode, answerCode, sizeCode, kindCode}
