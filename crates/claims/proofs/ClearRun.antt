@@ -115,7 +115,7 @@ clear-stays s st st′ k rows rows′ outputs outputs′ q p l h =
     let matched = Forall₂·cons (Matched.runs {k = k} (marks-agree rows′ (r .codes) p) l) Forall₂·nil in
     let two = demand3 s (check-none s .1 (r .image)) (run k rows outputs ∷ []) (run k rows′ outputs′ ∷ []) matched in
     let ends : Finished (ran (runOf s st k rows outputs .answer)) = rw h Finished.a-run in
-    let t = same-one (two .calls st st′ (marks-agree st′ (r .state .codes) q)) ends in
+    let t = same-one (two .from-states st st′ (marks-agree st′ (r .state .codes) q)) ends in
     let e = t .answer in
     record {
       answer = cc;

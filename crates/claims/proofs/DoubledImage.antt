@@ -1,4 +1,4 @@
--- The doubled image: what is read from it, where its groups stand, and what no run on plain rows shows of it.
+-- The doubled image: what is read from it, where its groups stand, and what plain values alone do not settle of it.
 use native.Mathlib.Numerals.{add-one}
 use native.Mathlib.Omega.{arith}
 use borrow.Author.Tests.{eq-eqb, ne-eqb}
@@ -42,7 +42,7 @@ doubled-placed s h =
       groups = λ i j l m. rw (doubled-nets s) (group-net xs i j (omega (arith, long)) m);
     }
 
--- what no run on plain rows shows
+-- what plain values alone do not settle
 pub doubled-unseen : DoubledUnseen
 unfolding markStart
 doubled-unseen s =

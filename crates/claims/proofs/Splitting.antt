@@ -5,7 +5,7 @@ use mathlib.Core.Path.{_≡_, refl}
 use mathlib.Core.List.{List, [], _∷_}
 use lib.ListN.{getD}
 use Rattle.groups.specs.Groups.{split}
-use Rattle.doubling.proofs.Simulation.{two-more}
+use Rattle.doubling.proofs.Simulation.{split-length, two-more}
 use Rattle.claims.specs.InBytes.{InTwo}
 
 two-one-more : (j : ℕ) → 2 * suc j + 1 ≡ suc (suc (2 * j + 1))
@@ -22,6 +22,9 @@ unfolding split
 split-mark [] j = refl
 split-mark (x ∷ xs) zero = refl
 split-mark (x ∷ xs) (suc j) = rw (two-one-more j) (split-mark xs j)
+
+pub split-in-two : (xs : List ℕ) → InTwo xs (split xs)
+split-in-two xs = record { size = split-length xs; values = λ i l. split-value xs i; marks = λ i l. split-mark xs i }
 
 -- bytes that stand so are the two bytes for each
 rest-in-two : {x y z : ℕ} {xs ys : List ℕ} → InTwo (x ∷ xs) (y ∷ z ∷ ys) → InTwo xs ys

@@ -1,16 +1,18 @@
 -- Demand 3: the two-run property of two lists of calls, and of the same calls on the doubled image.
-use Prim.Native.Nat.{ℕ, suc, _+_, _*_}
+use Prim.Native.Nat.{ℕ, suc, _+_, _*_, _≤_}
 use mathlib.Core.Path.{_≡_, refl, sym, ap, ap₂}
 use mathlib.Core.List.{List, Forall₂, Forall₂·nil, Forall₂·cons}
 use mathlib.Core.Option.{Option, none, some}
-use lib.Dec.{ltb}
+use lib.Dec.{ltb, lit≤}
 use lib.ListN.{length, getD}
 use Rattle.gates.specs.Relations.{AgreeByte, same, low-high, high-low, Agree}
+use Rattle.gates.proofs.Laws.{Code}
 use Rattle.gates.proofs.Meaning.{agree-means}
 use Rattle.image.specs.Image.{sizesOf, netsOf}
-use Rattle.image.proofs.Pairs.{pairs-refl, pairs-getD, pairs-length, pairs-append, pairs-map, pairs-square}
+use Rattle.image.proofs.Pairs.{pairs-refl, pairs-getD, pairs-length, pairs-places, pairs-append, pairs-map, pairs-square}
 use Rattle.refusals.specs.declared.answer.Refusal.{Refusal}
 use Rattle.refusals.specs.Refusals.{refuse, _then_, plainBytes, badByte, badLength}
+use Rattle.refusals.proofs.Refusals.{Codes}
 use Rattle.checking.specs.Check.{checkRefusal}
 use Rattle.checking.proofs.Checked.{Checked, check-none}
 use Rattle.cycle.specs.Cycle.{Cycle, firstOf, firstFlow}
@@ -40,6 +42,14 @@ same-byte number i Forall₂·nil = refl
 same-byte number i (Forall₂·cons same t) = rw (same-byte number (suc i) t)
 same-byte number i (Forall₂·cons low-high t) = rw (same-byte number (suc i) t)
 same-byte number i (Forall₂·cons high-low t) = rw (same-byte number (suc i) t)
+
+agree-code : {x y : ℕ} → x ≤ 3 → AgreeByte x y → y ≤ 3
+agree-code h same = h
+agree-code h low-high = lit≤ tt
+agree-code h high-low = lit≤ tt
+
+pub codes-agree : {xs ys : List ℕ} → Codes xs → Agree xs ys → Codes ys
+codes-agree {ys = ys} c a = pairs-places ys ys 0 refl (λ i l. agree-code (pairs-getD {R = Code} i 0 (lit≤ tt) c) (pairs-getD i 0 same a))
 
 same-lent : (registers pins filled : ℕ) {st st′ r r′ : List ℕ} (b b′ : List ℕ) → Agree st st′ → Agree r r′ → length b ≡ length b′
     → lentRefusal plainBytes registers pins filled st r b ≡ lentRefusal plainBytes registers pins filled st′ r′ b′
@@ -167,13 +177,13 @@ demand3 s h cs ds m =
     let c = check-none s .0 h in
     record {
       powered-up = λ a l. (rw (powered-up s a c l), rw (powered-up s a c l) (starts-state c .size));
-      calls = λ st st′ q. same-calls s q m;
+      from-states = λ st st′ q. same-calls s q m;
       from-power-up = λ a b l k. same-calls s (powered-agree c a b l k) m;
       doubled = λ few buf g.
           let d = demand2 s h few buf g in
           record {
             written = d .written;
-            calls = λ st st′ q. both-doubled c m q (d .from-state st) (d .from-state st′);
+            from-states = λ st st′ q. both-doubled c m q (d .from-state st) (d .from-state st′);
             from-power-up = λ a b a′ b′ l k l′ k′.
                 let x = d .from-power-up a a′ l l′ in
                 let y = d .from-power-up b b′ k k′ in

@@ -43,6 +43,6 @@ steps-agree s st st′ row row′ nets nets′ v q p l h =
     let matched = Forall₂·cons (Matched.steps (marks-agree row′ (r .codes) p) l) Forall₂·nil in
     let two = demand3 s (check-none s .1 (r .image)) (step row nets ∷ []) (step row′ nets′ ∷ []) matched in
     let ends : Finished (stepped (stepOf s st row nets .answer)) = rw h Finished.a-step in
-    let o = same-one (two .calls st st′ (marks-agree st′ (r .state .codes) q)) ends in
+    let o = same-one (two .from-states st st′ (marks-agree st′ (r .state .codes) q)) ends in
     let e = o .answer in
     record { answer = cc; nets = agree-marks (o .buffer); state = agree-marks (o .state) }

@@ -4,12 +4,8 @@ use Prim.Native.Nat.{ℕ, _≤_}
 use mathlib.Core.Path.{_≡_, refl, sym, ap, _∙_}
 use mathlib.Core.List.{List, [], _∷_, Forall₂}
 use mathlib.Core.Option.{none}
-use lib.Dec.{lit≤}
-use Rattle.gates.specs.Relations.{AgreeByte, same, low-high, high-low, Agree}
-use Rattle.gates.proofs.Laws.{Code}
+use Rattle.gates.specs.Relations.{Agree}
 use Rattle.image.specs.Image.{netsOf}
-use Rattle.image.proofs.Pairs.{pairs-getD, pairs-places}
-use Rattle.refusals.proofs.Refusals.{Codes}
 use Rattle.checking.specs.Check.{checkRefusal}
 use Rattle.checking.proofs.Checked.{check-none}
 use Rattle.cycle.specs.Calls.{starts, powerUpOf}
@@ -25,7 +21,7 @@ use Rattle.claims.specs.TwoRun.{Matched, AllSameDoubled}
 use Rattle.claims.specs.UnknownStart.{UnknownStarts}
 use Rattle.claims.proofs.History.{accepted-none, accepted-some}
 use Rattle.claims.proofs.Pairing.{pairs}
-use Rattle.claims.proofs.TwoRun.{agree-refl, same-refusal, place, both-doubled, demand3}
+use Rattle.claims.proofs.TwoRun.{agree-refl, codes-agree, same-refusal, place, both-doubled, demand3}
 use Rattle.claims.proofs.TwoSteps.{agree-marks}
 use Rattle.claims.proofs.ClearRun.{clear-stays}
 use Rattle.claims.proofs.Waking.{wakes-agree, marks-wake, wakes-powered}
@@ -35,15 +31,6 @@ record WokenPair (s u : List ℕ) : Type 0 where
   source : List ℕ
   wakes : Wakes s source
   carries : Carries source u
-
-codes-agree : {xs ys : List ℕ} → Codes xs → Agree xs ys → Codes ys
-codes-agree {xs} {ys} c a =
-    pairs-places ys ys 0 refl (λ i l. agree-code (pairs-getD {R = Code} i 0 (lit≤ tt) c) (pairs-getD i 0 same a))
-  where
-    agree-code : {x y : ℕ} → x ≤ 3 → AgreeByte x y → y ≤ 3
-    agree-code h same = h
-    agree-code h low-high = lit≤ tt
-    agree-code h high-low = lit≤ tt
 
 woken-pair : (s u : List ℕ) → checkRefusal s ≡ none → doubledSize (netsOf s) ≤ 8192 → Wakes (doubledImage s) u → WokenPair s u
 woken-pair s u h few w =
@@ -90,7 +77,7 @@ unknown-start s h =
     let c = check-none s .0 h in
     record {
       states = λ a st l. (λ w. agree-marks (wakes-powered s a h l w), marks-wake s a h l st);
-      calls = λ st st′ w w′ cs ds m. demand3 s h cs ds m .calls st st′ (wakes-agree c w w′);
+      calls = λ st st′ w w′ cs ds m. demand3 s h cs ds m .from-states st st′ (wakes-agree c w w′);
       clear = λ a st k rows rows′ outputs outputs′ l w p m.
           clear-stays s (powerUpOf s a .state) st k rows rows′ outputs outputs′ (agree-marks (wakes-powered s a h l w)) p m;
       doubled = λ few buf l. rw (double-accepted s buf (double-none s buf .1 (c, few, l))) (woken-doubled s h few);

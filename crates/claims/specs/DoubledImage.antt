@@ -1,4 +1,4 @@
--- The doubled image: it passes checking, it is read back as the doubled netlist, its groups stand in place; and what no run on plain rows shows of it.
+-- The doubled image: it passes checking, it is read back as the doubled netlist, its groups stand in place; and what plain values alone do not settle of it.
 use Prim.Native.Nat.{ℕ, _+_, _≤_, _<_}
 use mathlib.Core.Path.{_≡_}
 use mathlib.Core.List.{List}
@@ -44,8 +44,8 @@ pub record Placed (s : List ℕ) : Type 0 where
 abbrev pub DoubledPlaced : Type 0
 DoubledPlaced = (s : List ℕ) → checkRefusal s ≡ none → Placed s
 
--- what runs on plain rows do not show, or not alone: every OUT of the doubled netlist is free; of a register's two, the first keeps its start, also where that is 2, and the second
--- starts at 0, or at 1 where the register has no start
+-- what plain values alone do not settle, the policies and the starts that are not given: every OUT of the doubled netlist is free; a value register keeps its start, also 2; a mark
+-- register starts at 0, or at 1 where the register has no start
 pub record Unseen (s : List ℕ) : Type 0 where
   pub outs : (j : ℕ) → netOf (doubledImage s) j .kind ≡ OUT → netOf (doubledImage s) j .b ≡ 0
   pub values :

@@ -21,10 +21,10 @@ abbrev pub clearAfter : ℕ → Answer FirstFlow
 clearAfter k = done (record { cycle = k; verdict = clear })
 
 -- bytes that differ at most in the values of marked ones
-pub record SameMarks (rows rows′ : List ℕ) : Type 0 where
-  pub size : length rows ≡ length rows′
-  pub marks : (i : ℕ) → i < length rows → getD rows i 0 / 2 ≡ getD rows′ i 0 / 2
-  pub values : (i : ℕ) → i < length rows → getD rows i 0 / 2 ≡ 0 → getD rows i 0 % 2 ≡ getD rows′ i 0 % 2
+pub record SameMarks (bytes bytes′ : List ℕ) : Type 0 where
+  pub size : length bytes ≡ length bytes′
+  pub marks : (i : ℕ) → i < length bytes → getD bytes i 0 / 2 ≡ getD bytes′ i 0 / 2
+  pub values : (i : ℕ) → i < length bytes → getD bytes i 0 / 2 ≡ 0 → getD bytes i 0 % 2 ≡ getD bytes′ i 0 % 2
 
 -- two runs, of which the first is clear: the second is clear too, in every cycle c the byte of every protected OUT is unmarked, and the same; and the states that they
 -- leave differ at most in the values of marked registers, so that it holds of the next run as well

@@ -37,11 +37,12 @@ pub record Paired (s d st st′ : List ℕ) (cs cs′ : List Call) : Type 0 wher
 abbrev pub AllPaired : (s d st st′ : List ℕ) → Type 0
 AllPaired s d st st′ = (cs cs′ : List Call) → Forall₂ (Again d) (accepted s st cs) cs′ → Paired s d st st′ cs cs′
 
--- what doubling writes into buf, beside its source: from any state, where "register j's value and mark then start the doubled registers 2j and 2j + 1, in net
--- order" (on a list of bytes that is no state all calls are refused, and none is made again); and each from its own power-up, where the states held the bytes a and b before
+-- what doubling writes into buf, beside its source
 pub record DoublingPairs (s buf : List ℕ) : Type 0 where
   pub written : doubleOf s buf .refusal ≡ none
+  -- from any state: "register j's value and mark then start the doubled registers 2j and 2j + 1, in net order". On bytes that are no state all calls are refused, and none is made again
   pub from-state : let d = doubleOf s buf .buffer in (st : List ℕ) → AllPaired s d st (split st)
+  -- each from its own power-up, of states that held the bytes a and b before
   pub from-power-up :
       let d = doubleOf s buf .buffer in
       (a b : List ℕ) → length a ≡ stateLength (sizesOf s) → length b ≡ stateLength (sizesOf d)

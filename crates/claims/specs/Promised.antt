@@ -25,12 +25,12 @@ use Rattle.claims.specs.UnknownStart.{UnknownStarts}
 pub record Promised : Type 0 where
   -- FIRST, what most users lean on. A run that is clear stays clear, and shows the same bytes at its protected OUTs, whatever the untrusted pins and the marked registers held.
   pub clear-stays : ClearStays
-  -- So it does whatever the registers without a start held when the array woke: from power-up, or from any state with which it may wake, all calls give the same refusals, verdicts,
-  -- marks and unmarked values.
+  -- Nor does it matter what the registers without a start held when the array woke: from power-up, and from every state with which it may wake, all calls give the same refusals,
+  -- verdicts, marks and unmarked values.
   pub unknown-start : UnknownStarts
-  -- Two steps from states and on rows that differ in the values of marked bytes alone give the same verdict, the same marks and the same unmarked values.
+  -- Two steps from states and on rows that differ in the values of marked bytes alone give the same verdict, the same marks and the same unmarked values, where the first is not refused.
   pub steps-agree : StepsAgree
-  -- A run of the doubled netlist shows, as plain values, the values and marks of the run on its source, from power-up and from any state.
+  -- A run of the doubled netlist shows, as plain values, the values and marks of the run on its source, where that is not refused, from power-up and from any state.
   pub doubled-shows : DoubledShows
   -- THE TERMS of the statements below: the numbers of the kinds, a count of nets, a mark, the outputs of a cycle, the doubled size.
   pub terms : Terms
@@ -66,7 +66,7 @@ pub record Promised : Type 0 where
   pub step-is-cycle : StepIsCycle
   -- A run gives what its steps give, one for each cycle: their outputs, the last state, and the first flow of their verdicts.
   pub run-is-steps : RunIsSteps
-  -- Over a list of calls, each call works on the state that the one before it left, refused calls included.
+  -- Over a list of calls, each call works on the state that the one before it left, refused calls included, and gives one result.
   pub histories : Histories
   -- The doubled netlist shows the same values and marks as its source, in every cycle of every list of calls, from power-up and from any state.
   pub demand2 : Demand2

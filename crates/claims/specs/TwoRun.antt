@@ -57,7 +57,7 @@ pub record SameDoubled (s d st st′ : List ℕ) (cs ds : List Call) : Type 0 wh
   pub made′ : let ns = history d st′ ds in AllMade d st′ ds ns (cyclesIn ns)
   pub shown : Forall₂ (SameShown s d) (cyclesIn (history d st cs)) (cyclesIn (history d st′ ds))
 
--- where the lists cs and ds are made on s from st and st′, their accepted calls made again on d from u and u′
+-- of the lists cs and ds on s from st and st′: however their accepted calls are made again on d, from u and u′, both show the same
 abbrev pub AllSameDoubled : (s d st st′ u u′ : List ℕ) (cs ds : List Call) → Type 0
 AllSameDoubled s d st st′ u u′ cs ds =
     (cs′ ds′ : List Call) → Forall₂ (Again d) (accepted s st cs) cs′ → Forall₂ (Again d) (accepted s st′ ds) ds′ → SameDoubled s d u u′ cs′ ds′
@@ -66,7 +66,7 @@ AllSameDoubled s d st st′ u u′ cs ds =
 pub record DoubledTwoRun (s buf : List ℕ) (cs ds : List Call) : Type 0 where
   pub written : doubleOf s buf .refusal ≡ none
   -- from any two states that agree: "register j's value and mark then start the doubled registers 2j and 2j + 1, in net order"
-  pub calls : let d = doubleOf s buf .buffer in (st st′ : List ℕ) → Agree st st′ → AllSameDoubled s d st st′ (split st) (split st′) cs ds
+  pub from-states : let d = doubleOf s buf .buffer in (st st′ : List ℕ) → Agree st st′ → AllSameDoubled s d st st′ (split st) (split st′) cs ds
   -- from its own power-up, of states that held a′ and b′ before
   pub from-power-up :
       let d = doubleOf s buf .buffer in
@@ -75,15 +75,17 @@ pub record DoubledTwoRun (s buf : List ℕ) (cs ds : List Call) : Type 0 where
       → (powerUpOf d a′ .refusal ≡ none) × (powerUpOf d b′ .refusal ≡ none)
       × AllSameDoubled s d (powerUpOf s a .state) (powerUpOf s b .state) (powerUpOf d a′ .state) (powerUpOf d b′ .state) cs ds
 
--- from any two states that agree; from power-up, where the two lists' states held the bytes a and b before; and both again where doubling doesn't draw 15
 pub record TwoRun (s : List ℕ) (cs ds : List Call) : Type 0 where
   pub powered-up :
       (a : List ℕ) → length a ≡ stateLength (sizesOf s)
       → (powerUpOf s a .refusal ≡ none) × (length (powerUpOf s a .state) ≡ stateLength (sizesOf s))
-  pub calls : (st st′ : List ℕ) → Agree st st′ → SameCalls s st st′ cs ds
+  -- from any two states that agree
+  pub from-states : (st st′ : List ℕ) → Agree st st′ → SameCalls s st st′ cs ds
+  -- from power-up, where the two lists' states held the bytes a and b before
   pub from-power-up :
       (a b : List ℕ) → length a ≡ stateLength (sizesOf s) → length b ≡ stateLength (sizesOf s)
       → SameCalls s (powerUpOf s a .state) (powerUpOf s b .state) cs ds
+  -- and both again where doubling doesn't draw 15
   pub doubled : doubledSize (netsOf s) ≤ 8192 → (buf : List ℕ) → length buf ≡ 8 + 7 * doubledSize (netsOf s) → DoubledTwoRun s buf cs ds
 
 -- proved as `demand3`

@@ -26,7 +26,7 @@ pub record UnknownStart (s : List ℕ) : Type 0 where
       → length a ≡ stateLength (sizesOf s) → Wakes s st → SameMarks rows rows′ → length outputs ≡ length outputs′
       → fromPowerUp s a k rows outputs .answer ≡ clearAfter k
       → StaysClear s k (fromPowerUp s a k rows outputs) (runOf s st k rows′ outputs′)
-  -- and an array of the doubled netlist shows the same whatever it woke with itself, in its value registers without a start
+  -- the doubled netlist too shows equal marks, and equal values where the mark is 0, whatever its own registers without a start woke with
   pub doubled :
       doubledSize (netsOf s) ≤ 8192 → (buf : List ℕ) → length buf ≡ 8 + 7 * doubledSize (netsOf s)
       → let d = doubleOf s buf .buffer in

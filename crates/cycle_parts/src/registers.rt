@@ -15,13 +15,11 @@ ghost use Rattle.cycle.specs.Calls.{start, starts};
 fn start_byte(b: usize) -> u8
     ensures { λ r. ⌜ r ≡ start b ⌝ }
 {
-    if b == 1 {
-        return 1;
+    match b {
+        1 => 1,
+        2 => 2,
+        _ => 0,
     }
-    if b == 2 {
-        return 2;
-    }
-    0
 }
 
 // Every register takes its start byte.

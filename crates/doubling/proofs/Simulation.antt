@@ -25,11 +25,24 @@ use Rattle.groups.proofs.Groups.{at, past-gate, walked-all, comes-length, Split
 use Rattle.doubled.specs.Doubled.{doubledSize, valueNet, markNet, groupAt, groupsFrom, doubledNets}
 use Rattle.doubled.proofs.Positions.{below-or, Laid, end, next, laid, group-length, value-below, mark-below, mark-second}
 
+-- TWO BYTES for each byte
+pub record Twice (two : List ℕ → List ℕ) : Type 0 where
+  pub first : ℕ → ℕ
+  pub second : ℕ → ℕ
+  pub none : two [] ≡ []
+  pub next : (x : ℕ) (xs : List ℕ) → two (x ∷ xs) ≡ first x ∷ second x ∷ two xs
+
+twice-append : {two : List ℕ → List ℕ} → Twice two → (xs ys : List ℕ) → two (xs ++ ys) ≡ two xs ++ two ys
+twice-append t [] ys = rw (t .none)
+twice-append t (x ∷ xs) ys = rw (t .next x (xs ++ ys), t .next x xs, twice-append t xs ys)
+
 -- SPLIT BYTES
-pub split-append : (xs ys : List ℕ) → split (xs ++ ys) ≡ split xs ++ split ys
+split-twice : Twice split
 unfolding split
-split-append [] ys = refl
-split-append (x ∷ xs) ys = rw (split-append xs ys)
+split-twice = record { first = λ x. x % 2; second = λ x. x / 2; none = refl; next = λ x xs. refl }
+
+pub split-append : (xs ys : List ℕ) → split (xs ++ ys) ≡ split xs ++ split ys
+split-append = twice-append split-twice
 
 pub split-length : (l : List ℕ) → length (split l) ≡ 2 * length l
 unfolding split
@@ -213,13 +226,6 @@ unfolding doubledNets
 cycle-follows {xs} row st ps e br bs = follow ps e ps (laid xs) (omega arith) (begins xs row st br bs)
 
 -- OUTPUTS AND REGISTERS. What is read off group by group, two bytes for each byte of the source
-pub record Twice (two : List ℕ → List ℕ) : Type 0 where
-  pub none : two [] ≡ []
-  pub append : (xs ys : List ℕ) → two (xs ++ ys) ≡ two xs ++ two ys
-
-split-twice : Twice split
-split-twice = record { none = unfold split in refl; append = split-append }
-
 module _ {k : ℕ} {l l′ : ℕ → List Net → List ℕ} {b b′ : ℕ → Net → ℕ} (selection : Selection k l b) (selection′ : Selection k l′ b′)
     {two : List ℕ → List ℕ} (twice : Twice two) {n : ℕ} {xs : List Net} (ps : AllPass n 0 xs) (e : n ≡ length xs)
     (group : (i : ℕ) (y : Net) → i < n → Passes n i y → valueNet xs (suc i) ≡ valueNet xs i + groupLength (y .kind)
@@ -230,7 +236,7 @@ module _ {k : ℕ} {l l′ : ℕ → List Net → List ℕ} {b b′ : ℕ → Ne
   groups-twice (cons {i = i} {x = y} {xs = ys} q qs) (next m ls) h =
       let e : valueNet xs i + length (groupAt xs i y) ≡ valueNet xs (suc i) = rw (group-length xs i y) (sym m) in
       let o : l i (y ∷ ys) ≡ l i (y ∷ []) ++ l (suc i) ys = rw add-one at (selection-append selection i (y ∷ []) ys) in
-      rw (selection-append selection′ (valueNet xs i) (groupAt xs i y) (groupsFrom xs (suc i) ys), e, o, twice .append (l i (y ∷ [])) (l (suc i) ys))
+      rw (selection-append selection′ (valueNet xs i) (groupAt xs i y) (groupsFrom xs (suc i) ys), e, o, twice-append twice (l i (y ∷ [])) (l (suc i) ys))
       (ap₂ (λ (a b : List ℕ). a ++ b) (group i y (omega arith) q m) (groups-twice qs ls (omega arith)))
 
   doubled-twice : l′ 0 (doubledNets xs) ≡ two (l 0 xs)
@@ -284,8 +290,6 @@ abbrev doubledCycle : List Net → (row st : List ℕ) → Cycle
 doubledCycle xs row st = cycleOf (doubledNets xs) (split row) (split st)
 
 pub record CycleSplits (xs : List Net) (row st : List ℕ) : Type 0 where
-  pub values : (j : ℕ) → j < length xs → getD (doubledCycle xs row st .bytes) (valueNet xs j) 0 ≡ getD (cycleOf xs row st .bytes) j 0 % 2
-  pub marks : (j : ℕ) → j < length xs → getD (doubledCycle xs row st .bytes) (markNet xs j) 0 ≡ getD (cycleOf xs row st .bytes) j 0 / 2
   pub outputs : doubledCycle xs row st .outputs ≡ split (cycleOf xs row st .outputs)
   pub state : doubledCycle xs row st .state ≡ split (cycleOf xs row st .state)
 
@@ -296,8 +300,6 @@ cycle-splits {xs} {n} row st ps e br bs =
     let b = walk gateByte xs (at [] row st) .bytes in
     let d = walk gateByte (doubledNets xs) (at [] (split row) (split st)) .bytes in
     record {
-      values = λ j h. f .value j (omega arith);
-      marks = λ j h. f .mark j (omega arith);
       outputs = outputs-split xs b d (f .value) (f .mark) ps e;
       state = clocked-split xs b d (f .value) (f .mark) ps e;
     }

@@ -3,7 +3,7 @@
 use Prim.Native.Nat.{ℕ, _+_, _*_, _/_, _%_, _≤_}
 use native.Mathlib.Omega.{arith}
 use mathlib.Core.Path.{_≡_, refl}
-use mathlib.Core.List.{List, [], _∷_, _++_, Forall₂, Forall₂·nil, Forall₂·cons}
+use mathlib.Core.List.{List, [], _∷_, Forall₂, Forall₂·nil, Forall₂·cons}
 use lib.ListN.{length}
 use Rattle.gates.specs.Relations.{AgreeByte, same, low-high, high-low, Agree}
 use Rattle.gates.proofs.Laws.{SameValue}
@@ -22,14 +22,9 @@ pub woken : List ℕ → List ℕ
 woken [] = []
 woken (x ∷ xs) = x ∷ x / 2 ∷ woken xs
 
-woken-append : (xs ys : List ℕ) → woken (xs ++ ys) ≡ woken xs ++ woken ys
-unfolding woken
-woken-append [] ys = refl
-woken-append (x ∷ xs) ys = rw (woken-append xs ys)
-
 woken-twice : Twice woken
 unfolding woken
-woken-twice = record { none = refl; append = woken-append }
+woken-twice = record { first = λ x. x; second = λ x. x / 2; none = refl; next = λ x xs. refl }
 
 pub starts-woken : {xs : List Net} {n : ℕ} → AllPass n 0 xs → n ≡ length xs → starts (doubledNets xs) ≡ woken (starts xs)
 unfolding starts registers woken

@@ -27,7 +27,7 @@ constGroup a = net CONST a 0 0 ∷ net CONST 0 0 0 ∷ []
 abbrev pub inputGroup : List Net
 inputGroup = net INPUT 0 0 0 ∷ net INPUT 0 0 0 ∷ []
 
--- the start of a mark register, by the start b of its source: 1 where b is 2, for none given, and else 0
+-- the start of a mark register, by the start b of its register: 1 where none is given, that is, where b is 2, and else 0
 unfoldable pub markStart : ℕ → ℕ
 markStart b = bit (eqb b 2)
 

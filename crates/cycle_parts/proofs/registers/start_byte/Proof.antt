@@ -7,15 +7,15 @@ use Rattle.cycle_parts.proofs.registers.start_byte.Tie as tie
 
 returns : tie.Need-returns
 unfolding start byte
-returns c = rw (c .if1 .taken)
+returns c = rw (c .match .keys1)
 
 returns-2 : tie.Need-returns-2
 unfolding start byte
-returns-2 c = rw (c .if2 .taken)
+returns-2 c = rw (c .match .keys2)
 
 returns-3 : tie.Need-returns-3
 unfolding start byte
-returns-3 c = rw (ne-eqb _ 1 (c .before .if1 .left), ne-eqb _ 2 (c .if2 .left))
+returns-3 c = rw (ne-eqb _ 1 (c .match .rest .0 .1), ne-eqb _ 2 (c .match .rest .1))
 
 pub start-byte-spec : {M : Type 1} → statement M
 start-byte-spec = tie.close (tie.spec returns returns-2 returns-3)
