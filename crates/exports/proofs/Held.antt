@@ -1,39 +1,32 @@
 -- Each promise that no proof of `codes` uses, used by its parts: so one that is left out of the record, or loses one of these parts, is missed here.
 use Prim.Native.Nat.{ℕ, _+_, _*_, _/_, _%_, _≤_, _<_}
-use mathlib.Core.Path.{_≡_, refl}
-use mathlib.Core.List.{List, [], _∷_, Forall₂, Forall₂·nil}
+use mathlib.Core.Path.{_≡_}
+use mathlib.Core.List.{List, [], _∷_}
 use mathlib.Core.Option.{none, some}
 use mathlib.Core.Bool.{true}
 use lib.Dec.{lit≤}
 use lib.ListN.{length, getD, replicate}
 use Rattle.gates.specs.Kinds.{CONST, INPUT, REG, NOT, AND, OR, XOR, MUX, OUT}
 use Rattle.gates.specs.Rules.{mark, notByte, andByte, orByte, xorByte, muxByte, gateByte}
-use Rattle.gates.specs.Relations.{AgreeByte, Agree, BelowByte, equal, zero-marked}
+use Rattle.gates.specs.Relations.{AgreeByte, BelowByte, equal, zero-marked}
 use Rattle.gates.specs.Meaning.{Changed}
 use Rattle.image.specs.declared.image.Net.{Net}
-use Rattle.image.specs.Image.{sizesOf, net, netsOf, count}
+use Rattle.image.specs.Image.{sizesOf, netsOf, count}
 use Rattle.refusals.specs.declared.answer.Refusal.{Refusal}
 use Rattle.checking.specs.Check.{checkRefusal}
-use Rattle.cycle.specs.Cycle.{Verdict, clear, flow, outputsFrom, cycleOf, FirstFlow}
-use Rattle.cycle.specs.Calls.{stateLength, done, powerUpRefusal, powerUpOf, Stepped, stepOf, stepRefusal, Ran, runOf, runRefusal}
-use Rattle.groups.specs.Groups.{groupLength, split}
-use Rattle.doubled.specs.Doubled.{groupAt, doubledSize, valueNet, markNet, doubledNets}
+use Rattle.cycle.specs.Cycle.{Verdict, clear, flow, outputsFrom, cycleOf}
+use Rattle.cycle.specs.Calls.{stateLength, done, powerUpRefusal, powerUpOf, stepOf, stepRefusal, runOf, runRefusal}
+use Rattle.doubled.specs.Doubled.{doubledSize, valueNet, doubledNets}
 use Rattle.figures.specs.Figures.{doubledSizeOf}
-use Rattle.doubling.specs.Doubling.{doubledImage, doubleRefusal, doubleOf}
+use Rattle.doubling.specs.Doubling.{doubleRefusal, doubleOf}
 use Rattle.claims.specs.Reading.{twoBytes}
 use Rattle.claims.specs.Accepted.{AcceptedImage}
 use Rattle.claims.specs.Examples.{counted, twoRows}
-use Rattle.claims.specs.NetBytes.{netOf, placeOf, Counted, HasByte}
+use Rattle.claims.specs.NetBytes.{netOf, Counted, HasByte}
 use Rattle.claims.specs.Steps.{stepsOf, outputsIn, lastState}
 use Rattle.claims.specs.Figures.{total}
 use Rattle.claims.specs.Bound.{orsImage}
-use Rattle.claims.specs.Groups.{oneOfEach, theirGroups}
 use Rattle.claims.specs.Verdicts.{MarkedOutput, Judged, lowest, First, first}
-use Rattle.claims.specs.PowerUp.{WakesWith, Wakes}
-use Rattle.claims.specs.History.{Call, step, run, accepted, CallResult, history, cyclesIn, TurnedBack, AllFinished, AllMade}
-use Rattle.claims.specs.Pairing.{Again, step-again, shown, Shows}
-use Rattle.claims.specs.TwoRun.{Matched, SameCycle, SameCall, turned-back, finished, SameCalls, SameShown, SameDoubled}
-use Rattle.claims.specs.InBytes.{fromPowerUp, clearAfter, SameMarks, StaysClear, InTwo, ShowsInTwo}
 use Rattle.claims.proofs.Promised.{promised}
 
 -- TERMS
@@ -150,91 +143,6 @@ run-first : (s st : List ℕ) (k : ℕ) (rows outputs : List ℕ) (h : runRefusa
     → let a = promised .run-is-steps s st k rows outputs h in (runOf s st k rows outputs .answer ≡ done (a .first)) × First (a .verdicts) (a .first)
 run-first s st k rows outputs h = let a = promised .run-is-steps s st k rows outputs h in (a .answer, a .is-first)
 
-handed-on : (s st : List ℕ) (cs : List Call) → AllMade s st cs (history s st cs) (cyclesIn (history s st cs))
-handed-on = promised .histories
-
--- DOUBLING
-module _ (s buf : List ℕ) (h : checkRefusal s ≡ none) (few : doubledSize (netsOf s) ≤ 8192) (l : length buf ≡ 8 + 7 * doubledSize (netsOf s)) where
-  doubled-written : doubleOf s buf .refusal ≡ none
-  doubled-written = promised .demand2 s h few buf l .written
-
-  -- demand 2, from any state and from power-up
-  module _ (cs cs′ : List Call) where
-    paired-cycles : (st : List ℕ)
-        → let d = doubleOf s buf .buffer in Forall₂ (Again d) (accepted s st cs) cs′ → Forall₂ (Shows s d) (cyclesIn (history s st cs)) (cyclesIn (history d (split st) cs′))
-    paired-cycles st p = promised .demand2 s h few buf l .from-state st cs cs′ p .cycles
-
-    powered-cycles : (a b : List ℕ) → let d = doubleOf s buf .buffer in
-        length a ≡ stateLength (sizesOf s) → length b ≡ stateLength (sizesOf d) → Forall₂ (Again d) (accepted s (powerUpOf s a .state) cs) cs′
-        → Forall₂ (Shows s d) (cyclesIn (history s (powerUpOf s a .state) cs)) (cyclesIn (history d (powerUpOf d b .state) cs′))
-        × AllFinished (history d (powerUpOf d b .state) cs′)
-    powered-cycles a b m n p = let q = promised .demand2 s h few buf l .from-power-up a b m n .2 cs cs′ p in (q .cycles, q .finished)
-
-  doubled-checked : checkRefusal (doubledImage s) ≡ none
-  doubled-checked = promised .doubled-checks s h few
-
-  doubled-read : (netsOf (doubledImage s) ≡ doubledNets (netsOf s)) × ((p : ℕ) → getD (doubledImage s) p 0 < 256)
-  doubled-read = let r = promised .doubled-reads s h few in (r .nets, r .bytes)
-
-  places : (valueNet (netsOf s) 0 ≡ 0) × (valueNet (netsOf s) (sizesOf s .nets) ≡ sizesOf (doubledImage s) .nets)
-  places = let p = promised .doubled-placed s h in (p .first, p .end)
-
-  group-places : (i : ℕ) → i < sizesOf s .nets
-      → (valueNet (netsOf s) (i + 1) ≡ valueNet (netsOf s) i + groupLength (netOf s i .kind))
-      × (length (groupAt (netsOf s) i (netOf s i)) ≡ groupLength (netOf s i .kind)) × (markNet (netsOf s) i + 1 ≡ valueNet (netsOf s) (i + 1))
-  group-places i m = let p = promised .doubled-placed s h in (p .next i m, p .lengths i, p .mark i)
-
-  group-nets : (i j : ℕ) → i < sizesOf s .nets → j < groupLength (netOf s i .kind)
-      → netOf (doubledImage s) (valueNet (netsOf s) i + j) ≡ getD (groupAt (netsOf s) i (netOf s i)) j (net 0 0 0 0)
-  group-nets = promised .doubled-placed s h .groups
-
-doubled-buffer : (s buf : List ℕ) → doubleRefusal s buf ≡ none → doubleOf s buf .buffer ≡ doubledImage s
-doubled-buffer s buf h = rw (promised .doubling-writes s buf h)
-
-free-outs : (s : List ℕ) (j : ℕ) → netOf (doubledImage s) j .kind ≡ OUT → netOf (doubledImage s) j .b ≡ 0
-free-outs s = promised .doubled-unseen s .outs
-
-register-pair : (s : List ℕ) (i : ℕ) → i < sizesOf s .nets → netOf s i .kind ≡ REG
-    → (netOf (doubledImage s) (valueNet (netsOf s) i) ≡ net REG (valueNet (netsOf s) (netOf s i .a)) (netOf s i .b) 0)
-    × ((netOf s i .b ≡ 2 → ⊥) → netOf (doubledImage s) (markNet (netsOf s) i) ≡ net REG (markNet (netsOf s) (netOf s i .a)) 0 0)
-    × (netOf s i .b ≡ 2 → netOf (doubledImage s) (markNet (netsOf s) i) ≡ net REG (markNet (netsOf s) (netOf s i .a)) 1 0)
-register-pair s i l k = let u = promised .doubled-unseen s in (u .values i l k, u .marks i l k, u .unknown-marks i l k)
-
-each-group : (doubledNets oneOfEach ≡ theirGroups) × (doubledSize oneOfEach ≡ 33)
-each-group = (promised .groups .nets, promised .groups .size)
-
-xor-group : (xs : List Net) (i : ℕ) (x : Net) → x .kind ≡ 6
-    → groupAt xs i x ≡ net 6 (valueNet xs (x .a)) (valueNet xs (x .b)) 0 ∷ net 5 (markNet xs (x .a)) (markNet xs (x .b)) 0 ∷ []
-xor-group xs i x = promised .groups .each xs i x .xor
-
-shown-in-two : {o o′ : Ran} → ShowsInTwo o o′ → (j : ℕ) → j < length (o .outputs)
-    → (getD (o′ .outputs) (2 * j) 0 % 2 ≡ getD (o .outputs) j 0 % 2) × (getD (o′ .outputs) (2 * j + 1) 0 % 2 ≡ getD (o .outputs) j 0 / 2)
-shown-in-two t j m = (t .values j m, t .marks j m)
-
--- a run of the doubled netlist, from any state and from power-up
-module _ (s buf : List ℕ) (w : doubleOf s buf .refusal ≡ none) (k : ℕ) (rows rows′ outputs outputs′ : List ℕ) (f : FirstFlow)
-    (r : InTwo rows rows′) (l : length outputs′ ≡ 2 * length outputs) where
-  run-in-two : (st st′ : List ℕ) → InTwo st st′ → runOf s st k rows outputs .answer ≡ done f
-      → ShowsInTwo (runOf s st k rows outputs) (runOf (doubleOf s buf .buffer) st′ k rows′ outputs′)
-  run-in-two st st′ t h = promised .doubled-shows s buf w .from-state st st′ t k rows rows′ outputs outputs′ f r l h
-
-  powered-in-two :
-      (a a′ : List ℕ) → powerUpOf s a .refusal ≡ none → powerUpOf (doubleOf s buf .buffer) a′ .refusal ≡ none
-      → fromPowerUp s a k rows outputs .answer ≡ done f
-      → ShowsInTwo (fromPowerUp s a k rows outputs) (fromPowerUp (doubleOf s buf .buffer) a′ k rows′ outputs′)
-  powered-in-two a a′ p p′ h = promised .doubled-shows s buf w .from-power-up a a′ p p′ k rows rows′ outputs outputs′ f r l h
-
-a-step-again : (d row b b′ : List ℕ) → length b′ ≡ sizesOf d .nets → Again d (step row b) (step (split row) b′)
-a-step-again d row b b′ l = step-again l
-
-stays-clear : {s : List ℕ} {k : ℕ} {o o′ : Ran} → StaysClear s k o o′ → (o′ .answer ≡ clearAfter k) × SameMarks (o .state) (o′ .state)
-stays-clear c = (c .answer, c .state)
-
-stays-unmarked : {s : List ℕ} {k : ℕ} {o o′ : Ran} → StaysClear s k o o′
-    → (c i : ℕ) → c < k → i < sizesOf s .nets → netOf s i .kind ≡ OUT → netOf s i .b ≡ 1
-    → let j = c * sizesOf s .outputs + placeOf OUT s i in (getD (o .outputs) j 0 / 2 % 2 ≡ 0) × (getD (o .outputs) j 0 ≡ getD (o′ .outputs) j 0)
-stays-unmarked c = c .protected
-
 -- HOW BIG IT GETS
 figures-accepted : (s : List ℕ) → AcceptedImage s → doubledSize (netsOf s) ≤ 8192 → doubledSizeOf s .refusal ≡ none
 figures-accepted s a few = promised .when-accepted .doubled-size s .1 (a, few)
@@ -263,76 +171,3 @@ lowest-flow (lowest m h) = (m, h)
 earliest-flow : {vs : List Verdict} {c n : ℕ} → First vs (record { cycle = c; verdict = flow n })
     → (getD vs c clear ≡ flow n) × ((d : ℕ) → d < c → getD vs d clear ≡ clear)
 earliest-flow (first l e h) = (e, h)
-
--- TWO RUNS
-call-parts : {m n : CallResult} {A : Type 0} → SameCall m n → ((r : Refusal) → TurnedBack r (m .answer) → TurnedBack r (n .answer) → A)
-    → (m .answer ≡ n .answer → Agree (m .buffer) (n .buffer) → Forall₂ SameCycle (m .cycles) (n .cycles) → A) → A
-call-parts (turned-back r t u) f g = f r t u
-call-parts (finished t e b c) f g = g e b c
-
-same-cycle : {o o′ : Stepped} → SameCycle o o′ → (o .answer ≡ o′ .answer) × Agree (o .nets) (o′ .nets) × Agree (o .state) (o′ .state)
-same-cycle c = (c .verdict, c .nets, c .state)
-
-same-shown : {s d : List ℕ} {o o′ : Stepped} → SameShown s d o o′ → (j : ℕ) → j < sizesOf s .outputs
-    → (getD (shown d o) (2 * j + 1) 0 ≡ getD (shown d o′) (2 * j + 1) 0)
-    × (getD (shown d o) (2 * j + 1) 0 ≡ 0 → getD (shown d o) (2 * j) 0 ≡ getD (shown d o′) (2 * j) 0)
-same-shown c j l = (c .marks j l, c .values j l)
-
-steps-same : (s st st′ row row′ nets nets′ : List ℕ) (v : Verdict) → SameMarks st st′ → SameMarks row row′ → length nets ≡ length nets′
-    → stepOf s st row nets .answer ≡ done v → stepOf s st row nets .answer ≡ stepOf s st′ row′ nets′ .answer
-steps-same s st st′ row row′ nets nets′ v q p l h = promised .steps-agree s st st′ row row′ nets nets′ v q p l h .answer
-
-powered : (s a : List ℕ) → checkRefusal s ≡ none → length a ≡ stateLength (sizesOf s) → powerUpOf s a .refusal ≡ none
-powered s a h l = promised .demand3 s h [] [] Forall₂·nil .powered-up a l .0
-
--- any two rows that agree may stand in the two lists, also with bytes above 3
-matched-steps : {r r′ b b′ : List ℕ} → Agree r r′ → length b ≡ length b′ → Matched (step r b) (step r′ b′)
-matched-steps = Matched.steps
-
-matched-runs : {k : ℕ} {r r′ b b′ : List ℕ} → Agree r r′ → length b ≡ length b′ → Matched (run k r b) (run k r′ b′)
-matched-runs = Matched.runs
-
-any-states : (s : List ℕ) (cs ds : List Call) → checkRefusal s ≡ none → Forall₂ Matched cs ds → (st st′ : List ℕ) → Agree st st′ → SameCalls s st st′ cs ds
-any-states s cs ds h m = promised .demand3 s h cs ds m .calls
-
--- the doubled half of demand 3, from any two states that agree and from power-up
-module _ (s : List ℕ) (h : checkRefusal s ≡ none) (few : doubledSize (netsOf s) ≤ 8192) (buf : List ℕ) (l : length buf ≡ 8 + 7 * doubledSize (netsOf s))
-    (cs ds cs′ ds′ : List Call) (m : Forall₂ Matched cs ds) where
-  abbrev d : List ℕ
-  d = doubleOf s buf .buffer
-
-  both-shown : {st st′ : List ℕ} → SameDoubled s d st st′ cs′ ds′ → Forall₂ (SameShown s d) (cyclesIn (history d st cs′)) (cyclesIn (history d st′ ds′))
-  both-shown t = t .shown
-
-  doubled-lists : (st st′ : List ℕ) → Agree st st′ → Forall₂ (Again d) (accepted s st cs) cs′ → Forall₂ (Again d) (accepted s st′ ds) ds′
-      → SameDoubled s d (split st) (split st′) cs′ ds′
-  doubled-lists st st′ q = promised .demand3 s h cs ds m .doubled few buf l .calls st st′ q cs′ ds′
-
-  powered-lists :
-      (a b a′ b′ : List ℕ) → length a ≡ stateLength (sizesOf s) → length b ≡ stateLength (sizesOf s) → length a′ ≡ stateLength (sizesOf d) → length b′ ≡ stateLength (sizesOf d)
-      → Forall₂ (Again d) (accepted s (powerUpOf s a .state) cs) cs′ → Forall₂ (Again d) (accepted s (powerUpOf s b .state) ds) ds′
-      → SameDoubled s d (powerUpOf d a′ .state) (powerUpOf d b′ .state) cs′ ds′
-  powered-lists a b a′ b′ p q p′ q′ = promised .demand3 s h cs ds m .doubled few buf l .from-power-up a b a′ b′ p q p′ q′ .2 cs′ ds′
-
--- REGISTERS THAT WAKE UNKNOWN
-module _ (s : List ℕ) (h : checkRefusal s ≡ none) where
-  any-value : (st : List ℕ) → Wakes s st → (i : ℕ) → i < sizesOf s .nets → netOf s i .kind ≡ REG → WakesWith (netOf s i .b) (getD st (placeOf REG s i) 0)
-  any-value st w = w .register
-
-  woken-states : (a st : List ℕ) → length a ≡ stateLength (sizesOf s) → SameMarks (powerUpOf s a .state) st → Wakes s st
-  woken-states a st l = promised .unknown-start s h .states a st l .1
-
-  woken-calls : (st st′ : List ℕ) → Wakes s st → Wakes s st′ → (cs ds : List Call) → Forall₂ Matched cs ds → SameCalls s st st′ cs ds
-  woken-calls = promised .unknown-start s h .calls
-
-  woken-clear :
-      (a st : List ℕ) (k : ℕ) (rows outputs : List ℕ) → length a ≡ stateLength (sizesOf s) → Wakes s st → SameMarks rows rows
-      → fromPowerUp s a k rows outputs .answer ≡ clearAfter k → runOf s st k rows outputs .answer ≡ clearAfter k
-  woken-clear a st k rows outputs l w r e = promised .unknown-start s h .clear a st k rows rows outputs outputs l w r refl e .answer
-
-  woken-doubled :
-      doubledSize (netsOf s) ≤ 8192 → (buf : List ℕ) → length buf ≡ 8 + 7 * doubledSize (netsOf s)
-      → let d = doubleOf s buf .buffer in
-      (st st′ u u′ : List ℕ) → Wakes s st → Wakes s st′ → Wakes d u → Wakes d u′ → (cs ds cs′ ds′ : List Call) → Forall₂ Matched cs ds
-      → Forall₂ (Again d) (accepted s st cs) cs′ → Forall₂ (Again d) (accepted s st′ ds) ds′ → SameDoubled s d u u′ cs′ ds′
-  woken-doubled few buf l st st′ u u′ w w′ v v′ cs ds cs′ ds′ m = promised .unknown-start s h .doubled few buf l st st′ u u′ w w′ v v′ cs ds m cs′ ds′

@@ -1,2 +1,4 @@
 -- What the theorems say of the calls that are exported.
 pub mod Held
+pub mod HeldDoubling
+pub mod HeldRuns
