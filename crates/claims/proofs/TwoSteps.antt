@@ -1,7 +1,6 @@
 -- Two steps that are lent states and rows which differ at most in the values of marked bytes.
 use Prim.Native.Nat.{ℕ, _≤_}
 use native.Mathlib.Omega.{arith}
-use mathlib.Core.Path.{_≡_}
 use mathlib.Core.List.{List, [], _∷_, Forall₂·nil, Forall₂·cons}
 use lib.Dec.{lit≤}
 use lib.ListN.{getD}
