@@ -27,7 +27,7 @@ use Rattle.claims.specs.InBytes.{clearAfter, ClearStays}
 use Rattle.claims.proofs.NetBytes.{net-bytes}
 use Rattle.claims.proofs.Verdicts.{verdicts, first-flows}
 use Rattle.claims.proofs.TwoRun.{demand3}
-use Rattle.claims.proofs.TwoSteps.{marks-agree, agree-marks}
+use Rattle.claims.proofs.Agreeing.{marks-agree, agree-marks}
 use Rattle.claims.proofs.Taken.{run-taken}
 use Rattle.claims.proofs.OneCall.{same-one}
 

@@ -17,6 +17,7 @@ pub mod Figures
 pub mod Bound
 pub mod Groups
 pub mod Splitting
+pub mod Agreeing
 pub mod Pairing
 pub mod TwoRun
 pub mod OneCall

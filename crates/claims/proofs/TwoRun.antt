@@ -1,18 +1,16 @@
 -- Demand 3: the two-run property of two lists of calls, and of the same calls on the doubled image.
-use Prim.Native.Nat.{ℕ, suc, _+_, _*_, _≤_}
+use Prim.Native.Nat.{ℕ, suc, _+_, _*_}
 use mathlib.Core.Path.{_≡_, refl, sym, ap, ap₂}
 use mathlib.Core.List.{List, Forall₂, Forall₂·nil, Forall₂·cons}
 use mathlib.Core.Option.{Option, none, some}
-use lib.Dec.{ltb, lit≤}
+use lib.Dec.{ltb}
 use lib.ListN.{length, getD}
 use Rattle.gates.specs.Relations.{AgreeByte, same, low-high, high-low, Agree}
-use Rattle.gates.proofs.Laws.{Code}
 use Rattle.gates.proofs.Meaning.{agree-means}
 use Rattle.image.specs.Image.{sizesOf, netsOf}
-use Rattle.image.proofs.Pairs.{pairs-refl, pairs-getD, pairs-length, pairs-places, pairs-append, pairs-map, pairs-square}
+use Rattle.image.proofs.Pairs.{pairs-getD, pairs-length, pairs-append, pairs-map, pairs-square}
 use Rattle.refusals.specs.declared.answer.Refusal.{Refusal}
 use Rattle.refusals.specs.Refusals.{refuse, _then_, plainBytes, badByte, badLength}
-use Rattle.refusals.proofs.Refusals.{Codes}
 use Rattle.checking.specs.Check.{checkRefusal}
 use Rattle.checking.proofs.Checked.{Checked, check-none}
 use Rattle.cycle.specs.Cycle.{Cycle, firstOf, firstFlow}
@@ -24,12 +22,10 @@ use Rattle.doubling.proofs.Simulation.{split-length}
 use Rattle.claims.specs.History.{Call, refusalOf, stepped, ran, callResult, history, cyclesIn, Finished}
 use Rattle.claims.specs.Pairing.{shown, Shows, AllPaired}
 use Rattle.claims.specs.TwoRun.{Matched, steps, runs, SameCycle, SameCall, turned-back, finished, SameCalls, SameShown, AllSameDoubled, Demand3}
+use Rattle.claims.proofs.Agreeing.{agree-refl}
 use Rattle.claims.proofs.History.{turns-back, made-refused, made-step, made-run, made}
 use Rattle.claims.proofs.Splitting.{split-value, split-mark}
 use Rattle.claims.proofs.Pairing.{demand2}
-
-pub agree-refl : (xs : List ℕ) → Agree xs xs
-agree-refl = pairs-refl (λ x. same)
 
 -- REFUSALS see only lengths and bytes above 3
 same-length : (xs ys : List ℕ) (number n : ℕ) → length xs ≡ length ys → badLength number n xs ≡ badLength number n ys
@@ -42,14 +38,6 @@ same-byte number i Forall₂·nil = refl
 same-byte number i (Forall₂·cons same t) = rw (same-byte number (suc i) t)
 same-byte number i (Forall₂·cons low-high t) = rw (same-byte number (suc i) t)
 same-byte number i (Forall₂·cons high-low t) = rw (same-byte number (suc i) t)
-
-agree-code : {x y : ℕ} → x ≤ 3 → AgreeByte x y → y ≤ 3
-agree-code h same = h
-agree-code h low-high = lit≤ tt
-agree-code h high-low = lit≤ tt
-
-pub codes-agree : {xs ys : List ℕ} → Codes xs → Agree xs ys → Codes ys
-codes-agree {ys = ys} c a = pairs-places ys ys 0 refl (λ i l. agree-code (pairs-getD {R = Code} i 0 (lit≤ tt) c) (pairs-getD i 0 same a))
 
 same-lent : (registers pins filled : ℕ) {st st′ r r′ : List ℕ} (b b′ : List ℕ) → Agree st st′ → Agree r r′ → length b ≡ length b′
     → lentRefusal plainBytes registers pins filled st r b ≡ lentRefusal plainBytes registers pins filled st′ r′ b′

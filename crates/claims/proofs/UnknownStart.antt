@@ -21,8 +21,8 @@ use Rattle.claims.specs.TwoRun.{Matched, AllSameDoubled}
 use Rattle.claims.specs.UnknownStart.{UnknownStarts}
 use Rattle.claims.proofs.History.{accepted-none, accepted-some}
 use Rattle.claims.proofs.Pairing.{pairs}
-use Rattle.claims.proofs.TwoRun.{agree-refl, codes-agree, same-refusal, place, both-doubled, demand3}
-use Rattle.claims.proofs.TwoSteps.{agree-marks}
+use Rattle.claims.proofs.TwoRun.{same-refusal, place, both-doubled, demand3}
+use Rattle.claims.proofs.Agreeing.{agree-refl, codes-agree, agree-marks}
 use Rattle.claims.proofs.ClearRun.{clear-stays}
 use Rattle.claims.proofs.Waking.{wakes-agree, marks-wake, wakes-powered}
 

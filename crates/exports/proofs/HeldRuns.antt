@@ -22,7 +22,7 @@ use Rattle.claims.specs.Pairing.{Again, shown}
 use Rattle.claims.specs.TwoRun.{Matched, SameCycle, SameCall, turned-back, finished, SameCalls, SameShown, SameDoubled}
 use Rattle.claims.specs.InBytes.{fromPowerUp, clearAfter, SameMarks, StaysClear}
 use Rattle.claims.proofs.History.{made-step, made-is}
-use Rattle.claims.proofs.TwoSteps.{agree-marks}
+use Rattle.claims.proofs.Agreeing.{agree-marks}
 use Rattle.claims.proofs.Promised.{promised}
 
 -- LISTS OF CALLS. A call gives one result, and each call takes the state that the one before it left
