@@ -3,6 +3,7 @@ mod bytes;
 mod codes;
 mod kinds;
 
+pub use bytes::inverted_if;
 pub use bytes::marked;
 pub use codes::gate_byte;
 pub use codes::table;

@@ -1,5 +1,6 @@
--- What an image means, its view, what its writers leave, and images that others compute with.
+-- What an image means and its pins, its view, what its writers leave, and images that others compute with.
 pub mod Image
+pub mod Pins
 pub mod View
 pub mod Writing
 pub mod Examples

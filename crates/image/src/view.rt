@@ -11,6 +11,7 @@ ghost use Prim.Native.Nat.{_+_, _*_, _<_, _≤_};
 ghost use lib.ListN.{length};
 ghost use Rattle.image.specs.Image.{sizesOf, kindAt, operandAt, netAt};
 ghost use Rattle.image.specs.View.{countsOf};
+ghost use Rattle.image.specs.Writing.{Fits};
 
 // The image, and N, I, R and O.
 pub struct View<'a> {
@@ -95,7 +96,7 @@ pub fn operand_of(image: &[u8], i: usize, k: usize) -> usize
 // Net i of an image.
 pub fn net_of(image: &[u8], i: usize) -> Net
     requires { ⌜ (i < sizesOf (now image) .nets) × (length (now image) ≡ 8 + 7 * sizesOf (now image) .nets) ⌝ }
-    ensures { λ r. ⌜ r ≡ netAt (now (image .entry)) (sizesOf (now (image .entry)) .nets) i ⌝ }
+    ensures { λ r. ⌜ (r ≡ netAt (now (image .entry)) (sizesOf (now (image .entry)) .nets) i) × Fits r ⌝ }
 {
     Net {
         kind: kind_of(image, i),

@@ -5,17 +5,18 @@ use mathlib.Core.Bool.{Bool, _&&_, _||_, not}
 use lib.Dec.{eqb, leb, ltb}
 use Rattle.gates.specs.Kinds.{CONST, REG, OUT}
 use Rattle.image.specs.declared.image.Net.{Net}
+use Rattle.image.specs.Pins.{pinNet}
 use Rattle.refusals.specs.declared.answer.Refusal.{Refusal}
 use Rattle.refusals.specs.Refusals.{refuse, _then_}
 use Rattle.net_checking.specs.Operands.{listsA, listsB, listsC, pinA, pinB, pinC}
 
--- 5: a REG pin that is not below N, or another pin that is not below its net
+-- 5: a REG pin that names a net not below N, or another pin that names one not below its own
 abbrev pub badPin : (n i : ℕ) → Net → Bool
 badPin n i x =
-    (eqb (x .kind) REG && leb n (x .a))
-    || (pinA (x .kind) && leb i (x .a))
-    || (pinB (x .kind) && leb i (x .b))
-    || (pinC (x .kind) && leb i (x .c))
+    (eqb (x .kind) REG && leb n (pinNet (x .a)))
+    || (pinA (x .kind) && leb i (pinNet (x .a)))
+    || (pinB (x .kind) && leb i (pinNet (x .b)))
+    || (pinC (x .kind) && leb i (pinNet (x .c)))
 
 -- 6: a CONST above 1, a start above 2, a policy above 1
 abbrev pub badValue : Net → Bool

@@ -2,5 +2,6 @@
 mod limits;
 mod net;
 
+pub use limits::held_bits;
 pub use limits::limit_places;
 pub use net::check_net;

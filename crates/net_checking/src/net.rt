@@ -8,21 +8,27 @@ use gates::NOT;
 use gates::OUT;
 use gates::REG;
 use image::Net;
+use image::pin_net;
 use refusals::Outcome;
 use refusals::refused;
 ghost use mathlib.Core.Path.{_≡_};
+ghost use Rattle.image.specs.Writing.{Fits};
 ghost use Rattle.refusals.specs.Refusals.{refusalIn};
 ghost use Rattle.net_checking.specs.NetCheck.{badPin, badValue, badUnlisted, netRefusal};
-ghost use Rattle.net_checking.specs.Limits.{limitsOf, limitPlaces};
+ghost use Rattle.net_checking.specs.Limits.{limitsOf, limitPlaces, heldBits};
 
-// 5: a REG pin that is not below N, or another pin that is not below its net.
+// 5: a REG pin that names a net not below N, or another pin that names one not below its own.
 fn bad_pin(n: usize, i: usize, x: Net) -> bool
+    requires { ⌜ Fits x ⌝ }
     ensures { λ r. ⌜ r ≡ badPin n i x ⌝ }
 {
-    (x.kind == REG) & (n <= x.a)
-        | (NOT <= x.kind) & (x.kind <= OUT) & (i <= x.a)
-        | (AND <= x.kind) & (x.kind <= MUX) & (i <= x.b)
-        | (x.kind == MUX) & (i <= x.c)
+    let a = pin_net(x.a);
+    let b = pin_net(x.b);
+    let c = pin_net(x.c);
+    (x.kind == REG) & (n <= a)
+        | (NOT <= x.kind) & (x.kind <= OUT) & (i <= a)
+        | (AND <= x.kind) & (x.kind <= MUX) & (i <= b)
+        | (x.kind == MUX) & (i <= c)
 }
 
 // 6: a CONST above 1, a start above 2, a policy above 1.
@@ -44,6 +50,7 @@ fn bad_unlisted(x: Net) -> bool
 
 // Refusals 4 to 7 at net i of n, by the conditions themselves.
 fn refuse_net(n: usize, i: usize, x: Net) -> Outcome
+    requires { ⌜ Fits x ⌝ }
     ensures { λ r. ⌜ refusalIn r ≡ netRefusal n i x ⌝ }
 {
     let pin = bad_pin(n, i, x);
@@ -65,12 +72,19 @@ fn refuse_net(n: usize, i: usize, x: Net) -> Outcome
 }
 
 // Refusals 4 to 7 at net i of n. Most nets pass by the limits of their operands alone.
-pub fn check_net(places: &[u8; 27], limits: &[usize; 5], n: usize, i: usize, x: Net) -> Outcome
-    requires { ⌜ (now places ≡ limitPlaces) × (now limits ≡ limitsOf n i) ⌝ }
+pub fn check_net(
+    places: &[u8; 27],
+    bits: &[usize; 5],
+    limits: &[usize; 5],
+    n: usize,
+    i: usize,
+    x: Net,
+) -> Outcome
+    requires { ⌜ (now places ≡ limitPlaces) × (now bits ≡ heldBits) × (now limits ≡ limitsOf n i) × Fits x ⌝ }
     ensures { λ r. ⌜ refusalIn r ≡ netRefusal n i x ⌝ }
 {
     if x.kind < 9 {
-        if within(places, limits, x) {
+        if within(places, bits, limits, x) {
             return Outcome::Done;
         }
     }

@@ -7,10 +7,9 @@ use Rattle.net_checking.proofs.limits.within.Tie as tie
 returns : tie.Need-returns
 unfolding withinLimits
 returns c =
-    let third = c .before in
-    let second = third .before .before in
-    let first = second .before .before in
-    rw (third .limit3 .ensures, second .limit2 .ensures, first .limit .ensures)
+    let second = c .before in
+    let first = second .before in
+    rw (c .held3 .ensures, second .held2 .ensures, first .held .ensures)
 
 pub within-spec : {M : Type 1} → statement M
 within-spec =
