@@ -1,11 +1,12 @@
 //! Checking an image: refusals 1 to 8.
 //!
 //! The order is 1, 2, 3, then net by net 4, 5, 6, 7, then 8. So a 7 at net 0
-//! comes before a 4 at net 1.
+//! comes before a 4 at net 1. By request L3 of document 02 a pin may be inverted,
+//! and 5 looks at its net number alone.
 
 use crate::answers::Refusal;
-use crate::image::{image_length, read_entry, read_sizes, Entry, Sizes, HEAD};
-use crate::netlist::{Kind, Net, Netlist, Pin, Policy, Start};
+use crate::image::{image_length, read_entry, read_pin, read_sizes, Entry, Sizes, HEAD};
+use crate::netlist::{Kind, Net, Netlist, Policy, Start};
 
 /// N is 1 to 8,192.
 pub const MOST_NETS: usize = 8192;
@@ -62,22 +63,27 @@ fn check_net(entry: &Entry, number: usize, n: usize) -> Result<Net, Refusal> {
 }
 
 /// Pins of kinds 3 to 8 name a net below their own number. A REG pin names any
-/// net below N, so it may point to itself or forward.
+/// net below N, so it may point to itself or forward. Whether a pin is inverted
+/// does not matter.
 fn pins_are_good(kind: Kind, entry: &Entry, number: usize, n: usize) -> bool {
+    let a = read_pin(entry.a).net;
+    let b = read_pin(entry.b).net;
+    let c = read_pin(entry.c).net;
     match kind {
         Kind::Const => true,
         Kind::Input => true,
-        Kind::Reg => entry.a < n,
-        Kind::Not => entry.a < number,
-        Kind::And => entry.a < number && entry.b < number,
-        Kind::Or => entry.a < number && entry.b < number,
-        Kind::Xor => entry.a < number && entry.b < number,
-        Kind::Mux => entry.a < number && entry.b < number && entry.c < number,
-        Kind::Out => entry.a < number,
+        Kind::Reg => a < n,
+        Kind::Not => a < number,
+        Kind::And => a < number && b < number,
+        Kind::Or => a < number && b < number,
+        Kind::Xor => a < number && b < number,
+        Kind::Mux => a < number && b < number && c < number,
+        Kind::Out => a < number,
     }
 }
 
-/// A CONST is at most 1, a start at most 2, a policy at most 1.
+/// A CONST is at most 1, a start at most 2, a policy at most 1. None of these
+/// operands is a pin, so the top bit makes each of them too large.
 fn settings_are_good(kind: Kind, entry: &Entry) -> bool {
     match kind {
         Kind::Const => entry.a <= 1,
@@ -92,7 +98,7 @@ fn settings_are_good(kind: Kind, entry: &Entry) -> bool {
     }
 }
 
-/// Operands not listed for a kind are 0.
+/// Operands not listed for a kind are 0, their top bit too.
 fn unlisted_are_zero(kind: Kind, entry: &Entry) -> bool {
     match kind {
         Kind::Const => entry.b == 0 && entry.c == 0,
@@ -109,9 +115,9 @@ fn unlisted_are_zero(kind: Kind, entry: &Entry) -> bool {
 
 /// The net of an entry that drew none of 4 to 7.
 fn decode(kind: Kind, entry: &Entry) -> Net {
-    let a = Pin { net: entry.a };
-    let b = Pin { net: entry.b };
-    let c = Pin { net: entry.c };
+    let a = read_pin(entry.a);
+    let b = read_pin(entry.b);
+    let c = read_pin(entry.c);
     match kind {
         Kind::Const => Net::Const(entry.a == 1),
         Kind::Input => Net::Input,

@@ -1,5 +1,6 @@
 //! The cycle rules of document 01: power-up, the nets, the verdict, the clock.
-//! Power-up follows request L2 of document 02.
+//! Power-up follows request L2 of document 02, and what a pin reads follows
+//! request L3.
 
 use crate::answers::Verdict;
 use crate::gates::{
@@ -38,7 +39,7 @@ fn start_byte(start: Start) -> u8 {
 }
 
 /// One cycle works out all nets, gives the verdict, and then every register
-/// takes the byte of its net.
+/// takes the byte that its pin reads.
 pub(crate) fn work_out(netlist: &Netlist, state: &[u8], row: &[u8]) -> Cycle {
     let nets = net_bytes(netlist, state, row);
     let verdict = verdict(netlist, &nets);
@@ -50,9 +51,15 @@ pub(crate) fn work_out(netlist: &Netlist, state: &[u8], row: &[u8]) -> Cycle {
     }
 }
 
-/// The byte that a pin reads.
+/// The byte that a pin reads. It is that of the pin's net, and if the pin is
+/// inverted, it has the other value and the same mark, as NOT of the net has.
 fn read(nets: &[u8], pin: Pin) -> u8 {
-    nets[pin.net]
+    let byte = nets[pin.net];
+    if pin.inverted {
+        not_byte(byte)
+    } else {
+        byte
+    }
 }
 
 /// The bytes of all nets, worked out in net order. The pins of a gate and of an
@@ -98,8 +105,8 @@ fn verdict(netlist: &Netlist, nets: &[u8]) -> Verdict {
     Verdict::Clear
 }
 
-/// The state after the clock. Every register takes the byte of its net, all
-/// together: only the net bytes of this cycle are read.
+/// The state after the clock. Every register takes the byte that its pin reads,
+/// all together: only the net bytes of this cycle are read.
 fn clock(netlist: &Netlist, nets: &[u8]) -> Vec<u8> {
     let mut state = Vec::new();
     for net in &netlist.nets {

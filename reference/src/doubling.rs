@@ -1,8 +1,10 @@
-//! The doubled netlist of document 01, with the mark registers of request L2 of
-//! document 02.
+//! The doubled netlist of document 01, with the mark registers of request L2 and
+//! the inverted pins of request L3 of document 02.
 //!
 //! Each net becomes a group, groups in net order. The first net of a group is
-//! the value net v, the last the mark net t.
+//! the value net v, the last the mark net t. A pin on the value net is inverted
+//! if the source's pin is. A pin on the mark net or on an inner net of a group
+//! never is.
 
 use crate::answers::Refusal;
 use crate::check::check;
@@ -10,7 +12,14 @@ use crate::image::write_image;
 use crate::netlist::{Net, Netlist, Pin, Policy, Start};
 use crate::size::{group_length, size_within_limit};
 
-/// The value net and the mark net of a group.
+/// The numbers of the value net and the mark net of a group.
+struct Ends {
+    value: usize,
+    mark: usize,
+}
+
+/// The pins that stand for one pin of the source: v on the value net and t on
+/// the mark net of the group that it names.
 #[derive(Clone, Copy)]
 struct Pair {
     v: Pin,
@@ -41,28 +50,40 @@ fn recheck(buffer: &mut [u8]) -> Result<(), Refusal> {
 /// The value net and the mark net of every group, in net order. All of them are
 /// worked out before the first group is built, since a REG pin may point
 /// forward.
-fn pairs(netlist: &Netlist) -> Vec<Pair> {
-    let mut pairs = Vec::new();
+fn all_ends(netlist: &Netlist) -> Vec<Ends> {
+    let mut ends = Vec::new();
     let mut first = 0;
     for net in &netlist.nets {
         let length = group_length(net.kind());
-        let last = first + length - 1;
-        pairs.push(Pair {
-            v: Pin { net: first },
-            t: Pin { net: last },
+        ends.push(Ends {
+            value: first,
+            mark: first + length - 1,
         });
         first += length;
     }
-    pairs
+    ends
+}
+
+/// The two pins for a pin of the source. The value pin is inverted if the
+/// source's pin is, and the mark pin is not.
+fn pair(pin: Pin, ends: &[Ends]) -> Pair {
+    let named = &ends[pin.net];
+    Pair {
+        v: Pin {
+            net: named.value,
+            inverted: pin.inverted,
+        },
+        t: Pin::plain(named.mark),
+    }
 }
 
 /// The doubled netlist. Inputs, registers and outputs are each two for one.
 fn doubled(netlist: &Netlist) -> Netlist {
-    let pairs = pairs(netlist);
+    let ends = all_ends(netlist);
     let mut nets = Vec::new();
     for net in &netlist.nets {
         let first = nets.len();
-        nets.extend(group(*net, first, &pairs));
+        nets.extend(group(*net, first, &ends));
     }
     Netlist {
         inputs: 2 * netlist.inputs,
@@ -73,8 +94,8 @@ fn doubled(netlist: &Netlist) -> Netlist {
 }
 
 /// The group of one net, whose first net has the number `first`.
-fn group(net: Net, first: usize, pairs: &[Pair]) -> Vec<Net> {
-    let pair = |pin: Pin| pairs[pin.net];
+fn group(net: Net, first: usize, ends: &[Ends]) -> Vec<Net> {
+    let pair = |pin: Pin| pair(pin, ends);
     match net {
         Net::Const(value) => vec![Net::Const(value), Net::Const(false)],
         Net::Input => vec![Net::Input, Net::Input],
@@ -120,10 +141,10 @@ fn xor_group(a: Pair, b: Pair) -> Vec<Net> {
 /// AND(va, vb); p = AND(ta, vb); q = AND(tb, va); r = AND(ta, tb);
 /// s = OR(p, q); OR(s, r).
 fn and_group(a: Pair, b: Pair, first: usize) -> Vec<Net> {
-    let p = Pin { net: first + 1 };
-    let q = Pin { net: first + 2 };
-    let r = Pin { net: first + 3 };
-    let s = Pin { net: first + 4 };
+    let p = Pin::plain(first + 1);
+    let q = Pin::plain(first + 2);
+    let r = Pin::plain(first + 3);
+    let s = Pin::plain(first + 4);
     vec![
         Net::And(a.v, b.v),
         Net::And(a.t, b.v),
@@ -137,12 +158,12 @@ fn and_group(a: Pair, b: Pair, first: usize) -> Vec<Net> {
 /// OR(va, vb); m = NOT va; n = NOT vb; p = AND(ta, n); q = AND(tb, m);
 /// r = AND(ta, tb); s = OR(p, q); OR(s, r).
 fn or_group(a: Pair, b: Pair, first: usize) -> Vec<Net> {
-    let m = Pin { net: first + 1 };
-    let n = Pin { net: first + 2 };
-    let p = Pin { net: first + 3 };
-    let q = Pin { net: first + 4 };
-    let r = Pin { net: first + 5 };
-    let s = Pin { net: first + 6 };
+    let m = Pin::plain(first + 1);
+    let n = Pin::plain(first + 2);
+    let p = Pin::plain(first + 3);
+    let q = Pin::plain(first + 4);
+    let r = Pin::plain(first + 5);
+    let s = Pin::plain(first + 6);
     vec![
         Net::Or(a.v, b.v),
         Net::Not(a.v),
@@ -158,11 +179,11 @@ fn or_group(a: Pair, b: Pair, first: usize) -> Vec<Net> {
 /// MUX(va, vb, vc); p = OR(va, vb); q = OR(ta, tb); r = OR(p, q);
 /// w = AND(tc, r); z = MUX(ta, tb, vc); OR(w, z).
 fn mux_group(a: Pair, b: Pair, c: Pair, first: usize) -> Vec<Net> {
-    let p = Pin { net: first + 1 };
-    let q = Pin { net: first + 2 };
-    let r = Pin { net: first + 3 };
-    let w = Pin { net: first + 4 };
-    let z = Pin { net: first + 5 };
+    let p = Pin::plain(first + 1);
+    let q = Pin::plain(first + 2);
+    let r = Pin::plain(first + 3);
+    let w = Pin::plain(first + 4);
+    let z = Pin::plain(first + 5);
     vec![
         Net::Mux(a.v, b.v, c.v),
         Net::Or(a.v, b.v),

@@ -1,12 +1,16 @@
 //! The layout of the image: where its bytes stand and how they are written.
 //!
 //! Four u16 sizes come first, then all N kind bytes, then all N entries of
-//! three u16 operands. A u16 is two bytes, low byte first.
+//! three u16 operands. A u16 is two bytes, low byte first. The form of a pin
+//! follows request L3 of document 02.
 
-use crate::netlist::{Kind, Net, Netlist, Policy, Start};
+use crate::netlist::{Kind, Net, Netlist, Pin, Policy, Start};
 
 /// The bytes of the four sizes.
 pub(crate) const HEAD: usize = 8;
+
+/// The top bit of a u16. A pin with this bit is inverted.
+const TOP_BIT: usize = 32768;
 
 /// The four sizes at the head of an image.
 pub(crate) struct Sizes {
@@ -71,6 +75,24 @@ pub(crate) fn read_entry(image: &[u8], n: usize, number: usize) -> Entry {
     }
 }
 
+/// The pin that an operand stands for. The top bit says whether the pin is
+/// inverted, and the other bits name its net.
+pub(crate) fn read_pin(operand: usize) -> Pin {
+    Pin {
+        net: operand % TOP_BIT,
+        inverted: operand >= TOP_BIT,
+    }
+}
+
+/// The operand that stands for a pin. Its net is below 32,768.
+fn pin_operand(pin: Pin) -> usize {
+    if pin.inverted {
+        TOP_BIT + pin.net
+    } else {
+        pin.net
+    }
+}
+
 /// Writes a netlist into a buffer of its exact length.
 pub(crate) fn write_image(netlist: &Netlist, buffer: &mut [u8]) {
     let n = netlist.nets.len();
@@ -91,16 +113,17 @@ pub(crate) fn write_image(netlist: &Netlist, buffer: &mut [u8]) {
 /// The entry of a net. Operands not listed are 0.
 fn entry_of(net: Net) -> Entry {
     let kind = net.kind();
+    let pin = pin_operand;
     match net {
         Net::Const(value) => entry(kind, usize::from(value), 0, 0),
         Net::Input => entry(kind, 0, 0, 0),
-        Net::Reg(a, start) => entry(kind, a.net, start_operand(start), 0),
-        Net::Not(a) => entry(kind, a.net, 0, 0),
-        Net::And(a, b) => entry(kind, a.net, b.net, 0),
-        Net::Or(a, b) => entry(kind, a.net, b.net, 0),
-        Net::Xor(a, b) => entry(kind, a.net, b.net, 0),
-        Net::Mux(a, b, c) => entry(kind, a.net, b.net, c.net),
-        Net::Out(a, policy) => entry(kind, a.net, policy_operand(policy), 0),
+        Net::Reg(a, start) => entry(kind, pin(a), start_operand(start), 0),
+        Net::Not(a) => entry(kind, pin(a), 0, 0),
+        Net::And(a, b) => entry(kind, pin(a), pin(b), 0),
+        Net::Or(a, b) => entry(kind, pin(a), pin(b), 0),
+        Net::Xor(a, b) => entry(kind, pin(a), pin(b), 0),
+        Net::Mux(a, b, c) => entry(kind, pin(a), pin(b), pin(c)),
+        Net::Out(a, policy) => entry(kind, pin(a), policy_operand(policy), 0),
     }
 }
 

@@ -1,7 +1,7 @@
 //! A reference implementation of the gate-level trust tracker.
 //!
-//! It is written from document 01, the specification, and requests L1 and L2 of
-//! document 02, and follows their formulas literally. Every call checks the
+//! It is written from document 01, the specification, and requests L1, L2 and L3
+//! of document 02, and follows their formulas literally. Every call checks the
 //! image anew and works on a decoded netlist.
 
 #![forbid(unsafe_code)]

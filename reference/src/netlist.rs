@@ -47,10 +47,22 @@ impl Kind {
     }
 }
 
-/// A pin names the net that it reads.
+/// A pin names the net that it reads. By request L3 of document 02 an inverted
+/// pin reads the value of its net inverted and the mark unchanged.
 #[derive(Debug, Clone, Copy, PartialEq, Eq)]
 pub struct Pin {
     pub net: usize,
+    pub inverted: bool,
+}
+
+impl Pin {
+    /// The pin that reads a net as it is.
+    pub fn plain(net: usize) -> Pin {
+        Pin {
+            net,
+            inverted: false,
+        }
+    }
 }
 
 /// The start of a register: 0, 1, or 2 for none given. A register with none

@@ -127,7 +127,7 @@ mod tests {
     // above the limit, where 15 is drawn. 8 * 1,025 - 6 is 8,194.
     #[test]
     fn the_figures_above_the_limit() {
-        let zero = Pin { net: 0 };
+        let zero = Pin::plain(0);
         let mut nets = vec![Net::Const(true)];
         nets.extend(vec![Net::Or(zero, zero); 1024]);
         assert_eq!(size_of(&nets).nets, 8194);

@@ -10,6 +10,7 @@ use lib.ListN.{length}
 use Rattle.gates.specs.Kinds.{INPUT, REG, OUT}
 use Rattle.image.specs.declared.image.Net.{Net}
 use Rattle.image.specs.Image.{sizesOf, kindAt, operandAt, netAt, netsOf, count}
+use Rattle.image.specs.Pins.{pinNet}
 use Rattle.image.proofs.Nets.{netsLeft, nets-next, nets-left, length-nets, count-most}
 use Rattle.refusals.proofs.Refusals.{then-none, accepted}
 use Rattle.net_checking.proofs.Passes.{Passes, passes, no-refusal, register-pin}
@@ -83,7 +84,7 @@ module _ {s : List ℕ} {n : ℕ} (c : Checked s) (e : n ≡ sizesOf s .nets) wh
 pub few-of : {s : List ℕ} → Checked s → (k : ℕ) → count k (netsOf s) ≤ 8192
 few-of {s} c k = omega (arith, count-most k (netsOf s), length-nets s, c .few-nets)
 
--- the pin of a REG is below N
-pub pin-below : {s : List ℕ} {n : ℕ} → Checked s → n ≡ sizesOf s .nets → (i : ℕ) → i < n → kindAt s i ≡ REG → operandAt s n i 0 < n
+-- the pin of a REG names a net below N
+pub pin-below : {s : List ℕ} {n : ℕ} → Checked s → n ≡ sizesOf s .nets → (i : ℕ) → i < n → kindAt s i ≡ REG → pinNet (operandAt s n i 0) < n
 unfolding netAt
 pin-below c e i h k = register-pin (net-passes c e i h) k

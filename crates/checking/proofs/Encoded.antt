@@ -8,7 +8,7 @@ use Rattle.image.specs.declared.image.Net.{Net}
 use Rattle.image.specs.Image.{operands, encode}
 use Rattle.image.proofs.Pairs.{pairs-append}
 use Rattle.image.proofs.Encoding.{Bytes, u16-bytes}
-use Rattle.net_checking.proofs.Passes.{kind-most, operands-small}
+use Rattle.net_checking.proofs.Passes.{kind-most, operands-small, fits-small}
 use Rattle.checking.proofs.Checked.{AllPass, nil, cons}
 
 kind-bytes : {n i : ℕ} {xs : List Net} → n ≤ 8192 → i + length xs ≤ 8192 → AllPass n i xs → Bytes (map (λ x. x .kind) xs)
@@ -20,9 +20,8 @@ kind-bytes h l (cons {x = x} p ps) =
 operand-bytes : {n i : ℕ} {xs : List Net} → n ≤ 8192 → i + length xs ≤ 8192 → AllPass n i xs → Bytes (operands xs)
 operand-bytes h l nil = Forall₂·nil
 operand-bytes h l (cons {x = x} {xs = xs} p ps) =
-    let small = operands-small h (omega arith) p in
-    u16-bytes (x .a) (omega (arith, small .a))
-    (u16-bytes (x .b) (omega (arith, small .b)) (u16-bytes (x .c) (omega (arith, small .c)) (operand-bytes h (omega arith) ps)))
+    let fits = fits-small (operands-small h (omega arith) p) in
+    u16-bytes (x .a) (fits .a) (u16-bytes (x .b) (fits .b) (u16-bytes (x .c) (fits .c) (operand-bytes h (omega arith) ps)))
 
 pub encode-bytes :
     {n : ℕ} {z : Sizes} {xs : List Net} → n ≤ 8192 → length xs ≤ 8192 → AllPass n 0 xs

@@ -4,7 +4,7 @@ use Prim.Native.Nat.{ℕ, zero, suc, _≤_}
 use native.Mathlib.Omega.{arith}
 use mathlib.Core.Path.{_≡_, refl}
 use mathlib.Core.List.{List, [], _∷_, Forall₂, Forall₂·nil, Forall₂·cons}
-use mathlib.Core.Bool.{cond}
+use mathlib.Core.Bool.{Bool, true, false, cond}
 use lib.Dec.{eqb, lit≤}
 use lib.ListN.{length, getD}
 use Rattle.gates.specs.Rules.{gateByte}
@@ -13,6 +13,7 @@ use Rattle.gates.specs.Kinds.{REG, OUT}
 use Rattle.gates.proofs.Laws.{Gates, gates-agree, agree-mark, SameValue, gates-values, Code, gates-code}
 use Rattle.image.specs.declared.image.Net.{Net}
 use Rattle.image.specs.Image.{count}
+use Rattle.image.specs.Pins.{inverted, pinNet}
 use Rattle.image.proofs.Pairs.{pairs-append, pairs-getD, pairs-take, pairs-drop}
 use Rattle.refusals.proofs.Refusals.{Codes}
 use Rattle.net_checking.proofs.Passes.{Passes, is-const, is-input, is-reg, is-not, is-and, is-or, is-xor, is-mux, is-out}
@@ -38,14 +39,21 @@ module _ {R : ℕ → ℕ → Type 0} (kept : Kept R) where
   byte-related : {bs cs : List ℕ} (i : ℕ) → Forall₂ R bs cs → R (getD bs i 0) (getD cs i 0)
   byte-related i h = pairs-getD i 0 (kept .const 0 (lit≤ tt)) h
 
-  pin-related : {bs cs : List ℕ} (p : ℕ) → Forall₂ R bs cs → R (pinByte bs p) (pinByte cs p)
+  pin-related : {bs cs : List ℕ} (p : ℕ) → Forall₂ R bs cs → R (pinByte gateByte bs p) (pinByte gateByte cs p)
   unfolding pinByte
-  pin-related p h = byte-related p h
+  pin-related {bs} {cs} p h = by-flag (inverted p)
+    where
+      x : R (getD bs (pinNet p) 0) (getD cs (pinNet p) 0)
+      x = byte-related (pinNet p) h
+
+      by-flag : (b : Bool) → R (cond b (gateByte 3 (getD bs (pinNet p) 0) 0 0) (getD bs (pinNet p) 0)) (cond b (gateByte 3 (getD cs (pinNet p) 0) 0 0) (getD cs (pinNet p) 0))
+      by-flag true = let z = kept .const 0 (lit≤ tt) in kept .gate 3 _ _ _ _ _ _ x z z
+      by-flag false = x
 
   gate-related : {w w′ : Walk} (k a b c : ℕ) → WalkRelated R w w′
       → R
-      (gateByte k (pinByte (w .bytes) a) (pinByte (w .bytes) b) (pinByte (w .bytes) c))
-      (gateByte k (pinByte (w′ .bytes) a) (pinByte (w′ .bytes) b) (pinByte (w′ .bytes) c))
+      (gateByte k (pinByte gateByte (w .bytes) a) (pinByte gateByte (w .bytes) b) (pinByte gateByte (w .bytes) c))
+      (gateByte k (pinByte gateByte (w′ .bytes) a) (pinByte gateByte (w′ .bytes) b) (pinByte gateByte (w′ .bytes) c))
   gate-related k a b c h = kept .gate k _ _ _ _ _ _ (pin-related a (h .bytes)) (pin-related b (h .bytes)) (pin-related c (h .bytes))
 
   net-related : {n i : ℕ} {x : Net} {w w′ : Walk} → Passes n i x → WalkRelated R w w′ → R (netByte gateByte x w) (netByte gateByte x w′)
@@ -84,7 +92,7 @@ module _ {R : ℕ → ℕ → Type 0} (kept : Kept R) where
   outputs-related : {bs cs : List ℕ} (i : ℕ) (xs : List Net) → Forall₂ R bs cs → Forall₂ R (outputsFrom i xs bs) (outputsFrom i xs cs)
   outputs-related {bs} {cs} i xs h = selections-related R (outputs-selected bs) (outputs-selected cs) (λ j x. byte-related j h) i xs
 
-  clocked-related : {bs cs : List ℕ} (xs : List Net) → Forall₂ R bs cs → Forall₂ R (clocked xs bs) (clocked xs cs)
+  clocked-related : {bs cs : List ℕ} (xs : List Net) → Forall₂ R bs cs → Forall₂ R (clocked gateByte xs bs) (clocked gateByte xs cs)
   unfolding clocked
   clocked-related xs h = registers-related R (λ x. pin-related (x .a) h) xs
 

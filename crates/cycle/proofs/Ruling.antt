@@ -5,12 +5,15 @@ use native.Mathlib.Omega.{arith}
 use mathlib.Core.Logic.{⊎-elim}
 use mathlib.Core.Path.{_≡_, refl, sym, _∙_}
 use mathlib.Core.List.{List}
+use lib.Dec.{lit<}
 use lib.ListN.{length, getD, take, drop}
 use lib.Seq.{ext-getD}
 use Rattle.gates.specs.Kinds.{INPUT, REG, OUT}
 use Rattle.gates.specs.Rules.{gateByte}
 use Rattle.image.specs.declared.image.Net.{Net}
 use Rattle.image.specs.Image.{count}
+use Rattle.image.specs.Pins.{pinNet}
+use Rattle.image.proofs.PinNets.{plain-net}
 use Rattle.net_checking.proofs.Passes.{Passes, is-const, is-input, is-reg, is-not, is-and, is-or, is-xor, is-mux, is-out}
 use Rattle.checking.proofs.Checked.{AllPass, nil, cons}
 use Rattle.cycle.specs.Cycle.{Rule, Walk, pinByte, netByte, bytesOf}
@@ -38,20 +41,35 @@ pass-at nil i d h = absurd (omega arith)
 pass-at {k = k} (cons p ps) zero d h = rw (add-zero k) p
 pass-at {k = k} (cons p ps) (suc i) d h = let e : k + suc i ≡ suc k + i = omega arith in rw e (pass-at ps i d (omega arith))
 
+-- what a pin reads depends on the byte of its net alone
+pub pin-same : (rule : Rule) (bs cs : List ℕ) (p : ℕ) → getD bs (pinNet p) 0 ≡ getD cs (pinNet p) 0 → pinByte rule bs p ≡ pinByte rule cs p
+unfolding pinByte
+pin-same rule bs cs p e = rw e
+
 module _ {rule : Rule} (policy : PolicyUnread rule) where
   -- the byte of net i depends on the bytes below it, the next row byte and the next state byte alone. An operand that is not listed is 0, and names net 0
   pub same-byte : {n i : ℕ} {x : Net} (w w′ : Walk) → Passes n i x → ((j : ℕ) → j < i → getD (w .bytes) j 0 ≡ getD (w′ .bytes) j 0)
       → w .row ≡ w′ .row → w .state ≡ w′ .state → netByte rule x w ≡ netByte rule x w′
-  unfolding netByte pinByte
-  same-byte w w′ (is-const l) h r s = refl
-  same-byte w w′ is-input h r s = rw r
-  same-byte w w′ (is-reg l m) h r s = rw s
-  same-byte w w′ (is-not {a} l) h r s = rw (h a l, h 0 (omega arith))
-  same-byte w w′ (is-and {a} {b} l m) h r s = rw (h a l, h b m, h 0 (omega arith))
-  same-byte w w′ (is-or {a} {b} l m) h r s = rw (h a l, h b m, h 0 (omega arith))
-  same-byte w w′ (is-xor {a} {b} l m) h r s = rw (h a l, h b m, h 0 (omega arith))
-  same-byte w w′ (is-mux {a} {b} {c} l m o) h r s = rw (h a l, h b m, h c o)
-  same-byte w w′ (is-out {a} {b} l m) h r s = rw (h a l, h 0 (omega arith)) (policy .unread _ _ _ _)
+  unfolding netByte
+  same-byte {i = i} w w′ p h r s = by-kind p
+    where
+      reads : (a : ℕ) → pinNet a < i → pinByte rule (w .bytes) a ≡ pinByte rule (w′ .bytes) a
+      reads a l = pin-same rule (w .bytes) (w′ .bytes) a (h (pinNet a) l)
+
+      -- an operand that is not listed
+      unlisted : 0 < i → pinByte rule (w .bytes) 0 ≡ pinByte rule (w′ .bytes) 0
+      unlisted l = reads 0 (rw (plain-net {0} (lit< tt)) l)
+
+      by-kind : {n : ℕ} {x : Net} → Passes n i x → netByte rule x w ≡ netByte rule x w′
+      by-kind (is-const l) = refl
+      by-kind is-input = rw r
+      by-kind (is-reg l m) = rw s
+      by-kind (is-not {a} l) = rw (reads a l, unlisted (omega arith))
+      by-kind (is-and {a} {b} l m) = rw (reads a l, reads b m, unlisted (omega arith))
+      by-kind (is-or {a} {b} l m) = rw (reads a l, reads b m, unlisted (omega arith))
+      by-kind (is-xor {a} {b} l m) = rw (reads a l, reads b m, unlisted (omega arith))
+      by-kind (is-mux {a} {b} {c} l m o) = rw (reads a l, reads b m, reads c o)
+      by-kind (is-out {a} {b} l m) = rw (reads a l, unlisted (omega arith)) (policy .unread _ _ _ _)
 
   module _ {n : ℕ} {xs : List Net} (ps : AllPass n 0 xs) (row state : List ℕ) where
     abbrev cycle-bytes : List ℕ

@@ -5,8 +5,9 @@ use mathlib.Core.Bool.{_&&_, cond}
 use lib.Dec.{eqb}
 use lib.ListN.{getD, take, drop}
 use Rattle.gates.specs.Rules.{mark, gateByte}
-use Rattle.gates.specs.Kinds.{CONST, INPUT, REG, OUT}
+use Rattle.gates.specs.Kinds.{CONST, INPUT, REG, NOT, OUT}
 use Rattle.image.specs.declared.image.Net.{Net}
+use Rattle.image.specs.Pins.{inverted, pinNet}
 
 -- a rule for the byte of a gate or OUT (kinds 3 to 8), from its kind and the bytes of its pins
 abbrev pub Rule : Type 0
@@ -18,9 +19,10 @@ pub record Walk : Type 0 where
   pub row : List ℕ
   pub state : List ℕ
 
--- what a pin reads: the byte of the net that it names. Checking sees to it that there is one; 0 stands in otherwise
-unfoldable pub pinByte : (bs : List ℕ) (p : ℕ) → ℕ
-pinByte bs p = getD bs p 0
+-- what a pin reads: the byte of the net that it names; with its top bit set, what a NOT of that net gives by the rule, its value inverted and its mark unchanged.
+-- Checking sees to it that there is such a net; 0 stands in otherwise
+unfoldable pub pinByte : Rule → (bs : List ℕ) (p : ℕ) → ℕ
+pinByte rule bs p = let x = getD bs (pinNet p) 0 in cond (inverted p) (rule NOT x 0 0) x
 
 -- the byte of a net: a CONST's operand a, which is 0 or 1, so that its mark is 0, the next row byte for an INPUT, the next state byte for a REG, and the rule for every other kind.
 -- All three operands are read as pins; the rule does not look at one that is no pin, such as an OUT's policy
@@ -29,7 +31,7 @@ netByte rule x w =
     cond (eqb (x .kind) CONST) (x .a)
     (cond (eqb (x .kind) INPUT) (getD (w .row) 0 0)
     (cond (eqb (x .kind) REG) (getD (w .state) 0 0)
-    (rule (x .kind) (pinByte (w .bytes) (x .a)) (pinByte (w .bytes) (x .b)) (pinByte (w .bytes) (x .c)))))
+    (rule (x .kind) (pinByte rule (w .bytes) (x .a)) (pinByte rule (w .bytes) (x .b)) (pinByte rule (w .bytes) (x .c)))))
 
 -- one net further: an INPUT takes a row byte, a REG a state byte
 unfoldable pub past : Rule → Net → Walk → Walk
@@ -71,9 +73,9 @@ unfoldable pub registers : (Net → ℕ) → List Net → List ℕ
 registers f [] = []
 registers f (x ∷ xs) = cond (eqb (x .kind) REG) (f x ∷ registers f xs) (registers f xs)
 
--- the clock: every register takes the byte of its net, all together
-unfoldable pub clocked : List Net → (bs : List ℕ) → List ℕ
-clocked xs bs = registers (λ x. pinByte bs (x .a)) xs
+-- the clock: every register takes what its pin reads, all together
+unfoldable pub clocked : Rule → List Net → (bs : List ℕ) → List ℕ
+clocked rule xs bs = registers (λ x. pinByte rule bs (x .a)) xs
 
 -- what a cycle gives: the bytes of all nets, the verdict, the output bytes, and the state after the clock
 pub record Cycle : Type 0 where
@@ -86,7 +88,7 @@ pub record Cycle : Type 0 where
 unfoldable pub cycleOf : List Net → (row state : List ℕ) → Cycle
 cycleOf xs row state =
     let bs = bytesOf gateByte xs row state in
-    record { bytes = bs; verdict = verdictFrom 0 xs bs; outputs = outputsFrom 0 xs bs; state = clocked xs bs }
+    record { bytes = bs; verdict = verdictFrom 0 xs bs; outputs = outputsFrom 0 xs bs; state = clocked gateByte xs bs }
 
 -- k cycles with rows of `inputs` bytes each, from a state
 unfoldable pub cyclesOf : List Net → (inputs k : ℕ) → (rows state : List ℕ) → List Cycle

@@ -126,7 +126,7 @@ no-refusal {n} {i} (is-xor {a} {b} h k) = rw (lt-leb i (pinNet a) h, lt-leb i (p
 no-refusal {n} {i} (is-mux {a} {b} {c} h k l) = rw (lt-leb i (pinNet a) h, lt-leb i (pinNet b) k, lt-leb i (pinNet c) l)
 no-refusal {n} {i} (is-out {a} {b} h k) = rw (lt-leb i (pinNet a) h, le-ltb 1 b k)
 
--- the pin of a REG is below N
+-- the pin of a REG names a net below N
 pub register-pin : {n i : ℕ} {x : Net} → Passes n i x → x .kind ≡ REG → pinNet (x .a) < n
 register-pin (is-const p) h = absurd (omega arith)
 register-pin is-input h = absurd (omega arith)

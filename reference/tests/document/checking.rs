@@ -10,11 +10,13 @@ fn third(entry: Entry) -> Vec<u8> {
     counted(&[(CONST, 0, 0, 0), (CONST, 1, 0, 0), entry])
 }
 
-fn accepts(entry: Entry) {
+/// The entry is accepted as net 2.
+pub fn accepts(entry: Entry) {
     assert!(check(&third(entry)).is_ok(), "{entry:?}");
 }
 
-fn refuses(entry: Entry, number: u32) {
+/// The entry is refused as net 2, which is the place.
+pub fn refuses(entry: Entry, number: u32) {
     assert_eq!(check(&third(entry)), refused(number, 2), "{entry:?}");
 }
 
@@ -142,13 +144,13 @@ fn kinds_stand_first_and_operands_after_them() {
         0, 0, 0, 0, 0, 0,
     ];
     let netlist = check(&bytes).unwrap();
-    assert_eq!(netlist.nets, [Net::Const(true), Net::Not(Pin { net: 0 })]);
+    assert_eq!(netlist.nets, [Net::Const(true), Net::Not(Pin::plain(0))]);
 }
 
 // The lines of `nine_kinds`, in the decoded form.
 #[test]
 fn the_decoded_form_of_the_nine_kinds() {
-    let pin = |net: usize| Pin { net };
+    let pin = Pin::plain;
     let expected = Netlist {
         inputs: 1,
         registers: 1,

@@ -69,7 +69,7 @@ fn the_largest_doubled_netlist_is_refused() {
 fn the_starts_of_value_and_mark_registers() {
     let mut buffer = [77; 50];
     double(&three_registers(), &mut buffer).unwrap();
-    let reg = |net: usize, start: Start| Net::Reg(Pin { net }, start);
+    let reg = |net: usize, start: Start| Net::Reg(Pin::plain(net), start);
     let expected = [
         reg(0, Start::Zero),
         reg(1, Start::Zero),
@@ -87,7 +87,7 @@ fn doubled_outs_are_free() {
     let image = counted(&[(INPUT, 0, 0, 0), (OUT, 0, 1, 0), (OUT, 1, 0, 0)]);
     let mut buffer = [77; 50];
     double(&image, &mut buffer).unwrap();
-    let out = |net: usize| Net::Out(Pin { net }, Policy::Free);
+    let out = |net: usize| Net::Out(Pin::plain(net), Policy::Free);
     let expected = [Net::Input, Net::Input, out(0), out(1), out(2), out(3)];
     assert_eq!(check(&buffer).unwrap().nets, expected);
 }

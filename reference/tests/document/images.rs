@@ -60,20 +60,22 @@ pub const COUNTER: [u8; 50] = [
 /// The counter's four rows in document 01.
 pub const COUNTER_ROWS: [u8; 4] = [2, 0, 1, 0];
 
-/// A netlist with one net of each of the nine kinds. Its REG pin points
-/// forward.
+/// One net of each of the nine kinds. The REG pin points forward.
+pub const NINE_KINDS: [Entry; 9] = [
+    (REG, 6, 2, 0),
+    (INPUT, 0, 0, 0),
+    (CONST, 1, 0, 0),
+    (NOT, 1, 0, 0),
+    (AND, 1, 3, 0),
+    (OR, 2, 4, 0),
+    (MUX, 3, 4, 0),
+    (XOR, 5, 6, 0),
+    (OUT, 7, 1, 0),
+];
+
+/// The netlist of the nine kinds.
 pub fn nine_kinds() -> Vec<u8> {
-    counted(&[
-        (REG, 6, 2, 0),
-        (INPUT, 0, 0, 0),
-        (CONST, 1, 0, 0),
-        (NOT, 1, 0, 0),
-        (AND, 1, 3, 0),
-        (OR, 2, 4, 0),
-        (MUX, 3, 4, 0),
-        (XOR, 5, 6, 0),
-        (OUT, 7, 1, 0),
-    ])
+    counted(&NINE_KINDS)
 }
 
 /// Two inputs and nothing else: I = 2, R = 0, O = 0.

@@ -30,11 +30,12 @@ fn doubles_to(image: &[u8], nets: usize) {
     }
 }
 
-// The two halves of the sum above. Of kinds 3 to 8 as net 0 every pin draws 5.
+// The two halves of the sum above. Of kinds 3 to 8 as net 0 every pin draws 5,
+// also an inverted one: 32,768 names net 0, and 65,535 net 32,767.
 #[test]
 fn net_0_has_two_nets_and_each_after_it_at_most_eight() {
     for kind in [NOT, AND, OR, XOR, MUX, OUT] {
-        for pin in [0, 1, 65535] {
+        for pin in [0, 1, 32768, 65535] {
             check_refuses(&counted(&[(kind, pin, pin, pin)]), 5, 0);
         }
     }

@@ -1,5 +1,5 @@
-//! Tests of the reference against document 01 and requests L1 and L2 of document
-//! 02.
+//! Tests of the reference against document 01 and requests L1, L2 and L3 of
+//! document 02.
 //!
 //! Every expected value is a line of these documents or is worked out by hand
 //! from them, and then a comment says how.
@@ -14,11 +14,18 @@ mod doubled_bytes;
 mod doubling;
 mod gates;
 mod images;
+mod inverted_as_not;
+mod inverted_checking;
+mod inverted_cycles;
+mod inverted_doubling;
+mod inverted_gates;
+mod inverted_groups;
 mod largest;
 mod lent;
 mod limits;
 mod listing;
 mod order;
+mod pins;
 mod program;
 mod properties;
 mod random;

@@ -1,6 +1,7 @@
 //! Promises of document 01 that join two results: a run and its steps, and a
 //! netlist and its doubled netlist. They are tried on all rows and states of a
-//! gate and on many small netlists.
+//! gate and on many small netlists, with and without inverted pins (request L3 of
+//! document 02).
 
 use crate::images::{INPUT, REG};
 use crate::random::Numbers;
@@ -99,7 +100,8 @@ fn nets_pair(source: &Sample, mut states: States, k: usize, rows: &[u8]) {
     }
 }
 
-// Three INPUTs, one gate on them, and an OUT: all 64 rows for each kind.
+// Three INPUTs, one gate on them, and an OUT: all 64 rows for each kind and each
+// choice of inverted pins.
 #[test]
 fn every_gate_pairs_on_all_rows() {
     let rows: Vec<u8> = all_triples().concat();
@@ -109,17 +111,32 @@ fn every_gate_pairs_on_all_rows() {
     }
 }
 
+/// A netlist with three registers and no input pairs from power-up and from all
+/// 64 states.
+fn pairs_from_all_states(source: &Sample) {
+    pairs(source, &power_ups(source), 1, &[]);
+    nets_pair(source, power_ups(source), 2, &[]);
+    for state in all_triples() {
+        pairs(source, &from_state(&state), 1, &[]);
+        nets_pair(source, from_state(&state), 2, &[]);
+    }
+}
+
 // Three REGs with start 2 that hold their bytes, one gate on them, and an OUT:
-// power-up and all 64 states for each kind.
+// power-up and all 64 states for each kind and each choice of inverted pins.
 #[test]
 fn every_gate_pairs_from_all_states() {
     for source in gates_on(REG) {
-        pairs(&source, &power_ups(&source), 1, &[]);
-        nets_pair(&source, power_ups(&source), 2, &[]);
-        for state in all_triples() {
-            pairs(&source, &from_state(&state), 1, &[]);
-            nets_pair(&source, from_state(&state), 2, &[]);
-        }
+        pairs_from_all_states(&source);
+    }
+}
+
+// Three REGs with start 2 that pass their bytes on in a ring, with each choice
+// of their pins inverted.
+#[test]
+fn registers_with_inverted_pins_pair_from_all_states() {
+    for source in rings() {
+        pairs_from_all_states(&source);
     }
 }
 
@@ -141,6 +158,21 @@ fn small_netlists_pair_from_any_state() {
         let state = numbers.bytes(source.registers);
         pairs(&source, &from_state(&state), 8, &rows);
         nets_pair(&source, from_state(&state), 8, &rows);
+    }
+}
+
+// A doubled netlist is a netlist too, and its inverted pins are those of its
+// source. It pairs with its own doubled netlist. Its rows and states may have
+// marks here.
+#[test]
+fn doubled_netlists_pair_with_their_own_doubled_netlists() {
+    let mut numbers = Numbers(11);
+    for source in samples(&mut numbers).into_iter().take(200) {
+        let doubled = source.doubled();
+        let rows = numbers.bytes(3 * doubled.inputs);
+        let state = numbers.bytes(doubled.registers);
+        nets_pair(&doubled, power_ups(&doubled), 3, &rows);
+        nets_pair(&doubled, from_state(&state), 3, &rows);
     }
 }
 

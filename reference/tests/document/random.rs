@@ -1,6 +1,7 @@
 //! Random numbers and netlists for the tests, the same in every run of them.
 
 use crate::images::*;
+use crate::pins::{change_pins, inverted, pins};
 
 /// A sequence of numbers that is the same in every run of the tests.
 pub struct Numbers(pub u64);
@@ -25,8 +26,8 @@ impl Numbers {
     }
 }
 
-/// A good entry of this kind for net `number` of `n` nets. Net 0 has no net
-/// below it, so its kind is CONST, INPUT or REG.
+/// A good entry of this kind for net `number` of `n` nets, with no pin inverted.
+/// Net 0 has no net below it, so its kind is CONST, INPUT or REG.
 fn entry(numbers: &mut Numbers, kind: u8, number: usize, n: usize) -> Entry {
     let below = number.max(1);
     match kind {
@@ -52,15 +53,55 @@ pub fn random_nets(numbers: &mut Numbers, n: usize) -> Vec<Entry> {
 }
 
 /// The nets of a good netlist of `n` nets. From net 1 on the kinds are drawn
-/// from the given ones.
+/// from the given ones. In half of the netlists no pin is inverted, and in the
+/// others each pin is inverted or not.
 pub fn random_nets_of(numbers: &mut Numbers, kinds: &[u8], n: usize) -> Vec<Entry> {
+    let inverts = numbers.below(2) == 1;
     let mut nets = Vec::new();
     for number in 0..n {
         let kind = match number {
             0 => numbers.below(3) as u8,
             _ => kinds[numbers.below(kinds.len())],
         };
-        nets.push(entry(numbers, kind, number, n));
+        let plain = entry(numbers, kind, number, n);
+        nets.push(match inverts {
+            false => plain,
+            true => some_inverted(numbers, plain),
+        });
     }
     nets
+}
+
+/// The entry with each of its pins inverted or not.
+fn some_inverted(numbers: &mut Numbers, entry: Entry) -> Entry {
+    change_pins(entry, |pin| match numbers.below(2) {
+        0 => pin,
+        _ => inverted(pin),
+    })
+}
+
+// A pin with the top bit is 32,768 or more. Of 200 netlists of 30 nets about
+// half have no such pin. Kinds 2 to 8 have 1, 1, 2, 2, 2, 3 and 1 pins, in all
+// 12. In the others each of these is found both with the bit and without it.
+#[test]
+fn netlists_with_and_without_inverted_pins() {
+    let mut numbers = Numbers(10);
+    let mut without = 0;
+    let mut met = std::collections::BTreeSet::new();
+    for _ in 0..200 {
+        let nets = random_nets(&mut numbers, 30);
+        let mut found = Vec::new();
+        for net in &nets {
+            for (place, pin) in pins(*net).into_iter().enumerate() {
+                found.push((net.0, place, pin >= 32768));
+            }
+        }
+        if found.iter().all(|(_, _, bit)| !bit) {
+            without += 1;
+        } else {
+            met.extend(found);
+        }
+    }
+    assert!((50..150).contains(&without), "{without}");
+    assert_eq!(met.len(), 2 * 12);
 }

@@ -1,6 +1,7 @@
 //! Netlists for the tests that join two results, and accepted calls on them.
 
 use crate::images::*;
+use crate::pins::all_inversions;
 use crate::random::{random_nets, Numbers};
 use reference::{double, doubled_size, power_up, run, step, FirstFlow, Verdict};
 
@@ -90,19 +91,20 @@ pub fn sample(nets: &[Entry]) -> Sample {
     }
 }
 
-/// Netlists of 1 to 30 nets of all kinds, with registers of all starts.
+/// Netlists of 1 to 30 nets of all kinds, with registers of all starts. About
+/// half of them have inverted pins.
 pub fn samples(numbers: &mut Numbers) -> Vec<Sample> {
     let mut all = Vec::new();
-    for _ in 0..300 {
+    for _ in 0..600 {
         let n = 1 + numbers.below(30);
         all.push(sample(&random_nets(numbers, n)));
     }
     all
 }
 
-/// For each gate and for OUT: three nets of this kind, the gate on them as net
-/// 3, and a protected OUT of the gate. The three nets are INPUTs, or they are
-/// REGs with start 2 that hold their bytes.
+/// For each gate and for OUT, with each choice of its pins inverted: three nets
+/// of this kind, the gate on them as net 3, and a protected OUT of the gate. The
+/// three nets are INPUTs, or they are REGs with start 2 that hold their bytes.
 pub fn gates_on(kind: u8) -> Vec<Sample> {
     let source = |net: u16| match kind {
         REG => (REG, net, 2, 0),
@@ -117,7 +119,26 @@ pub fn gates_on(kind: u8) -> Vec<Sample> {
         (OUT, 2, 0, 0),
     ];
     let nets = |gate: Entry| [source(0), source(1), source(2), gate, (OUT, 3, 1, 0)];
-    gates.iter().map(|gate| sample(&nets(*gate))).collect()
+    let all = gates.into_iter().flat_map(all_inversions);
+    all.map(|gate| sample(&nets(gate))).collect()
+}
+
+/// Three REGs with start 2, of which each takes the byte of another and the last
+/// points backward, with each choice of their pins inverted. Behind each of them
+/// stands a protected OUT of it, whose pin is inverted if the REG's is.
+pub fn rings() -> Vec<Sample> {
+    let mut all = Vec::new();
+    for first in all_inversions((REG, 2, 2, 0)) {
+        for second in all_inversions((REG, 4, 2, 0)) {
+            for third in all_inversions((REG, 0, 2, 0)) {
+                let out = |reg: Entry, net: u16| (OUT, net + (reg.1 & 32768), 1, 0);
+                let outs = [out(first, 0), out(second, 2), out(third, 4)];
+                let nets = [first, outs[0], second, outs[1], third, outs[2]];
+                all.push(sample(&nets));
+            }
+        }
+    }
+    all
 }
 
 /// All 64 lists of three bytes from 0 to 3.

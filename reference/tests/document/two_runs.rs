@@ -1,8 +1,10 @@
 //! The two-run property of document 01, from the states of request L2 of
-//! document 02: any two states that agree in marks and in unmarked values.
+//! document 02: any two states that agree in marks and in unmarked values. It is
+//! tried on netlists with and without the inverted pins of request L3.
 
 use crate::images::*;
 use crate::lent::*;
+use crate::pins::inverted;
 use crate::random::Numbers;
 use crate::samples::*;
 use reference::Verdict;
@@ -152,19 +154,34 @@ fn two_lists_from_any_two_states_that_agree() {
     }
 }
 
+/// One step from all states of three registers, each with all that agree with
+/// it.
+fn agrees_from_all_states(source: &Sample) {
+    for first in all_triples() {
+        for second in all_triples() {
+            if agree(&first, &second) {
+                let states = [first.to_vec(), second.to_vec()];
+                Lists::new(source, states).step([&[], &[]]);
+            }
+        }
+    }
+}
+
 // Three REGs with start 2 that hold their bytes, one gate on them, and a
-// protected OUT: all states, each with all that agree with it.
+// protected OUT, with each choice of the gate's pins inverted.
 #[test]
 fn every_gate_agrees_from_all_states_that_agree() {
     for source in gates_on(REG) {
-        for first in all_triples() {
-            for second in all_triples() {
-                if agree(&first, &second) {
-                    let states = [first.to_vec(), second.to_vec()];
-                    Lists::new(&source, states).step([&[], &[]]);
-                }
-            }
-        }
+        agrees_from_all_states(&source);
+    }
+}
+
+// Three REGs with start 2 that pass their bytes on in a ring, with each choice
+// of their pins inverted.
+#[test]
+fn registers_with_inverted_pins_agree_from_all_states_that_agree() {
+    for source in rings() {
+        agrees_from_all_states(&source);
     }
 }
 
@@ -191,6 +208,31 @@ fn an_unknown_register_with_either_value() {
     let second = source.step(&[3, 0], &[3]);
     assert_eq!(second, (flow, vec![3, 0, 3, 3, 3], vec![3, 3]));
     Lists::new(&source, [vec![2, 0], vec![3, 0]]).step([&[3], &[3]]);
+}
+
+// A register with start 2 that takes its own byte inverted, the AND of the row
+// and the register inverted, and a protected OUT of the AND inverted. By hand,
+// with the row 3 in both lists:
+//
+// - State 2: the AND of 3 and 3 is 3, the OUT 2: a flow at net 3. State 3.
+// - State 3: the AND of 2 and 3 is 2, the OUT 3: a flow at net 3. State 2.
+//
+// The verdicts are equal and the bytes agree.
+#[test]
+fn an_unknown_register_with_either_value_behind_inverted_pins() {
+    let source = sample(&[
+        (REG, inverted(0), 2, 0),
+        (INPUT, 0, 0, 0),
+        (AND, inverted(0), 1, 0),
+        (OUT, inverted(2), 1, 0),
+    ]);
+    assert_eq!(source.power_up(), [2]);
+    let flow = Verdict::Flow(3);
+    let first = source.step(&[2], &[3]);
+    assert_eq!(first, (flow, vec![2, 3, 3, 2], vec![3]));
+    let second = source.step(&[3], &[3]);
+    assert_eq!(second, (flow, vec![3, 3, 2, 3], vec![2]));
+    Lists::new(&source, [vec![2], vec![3]]).step([&[3], &[3]]);
 }
 
 /// A run of K cycles turns back in both lists with this number and place and

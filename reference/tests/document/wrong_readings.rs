@@ -1,9 +1,10 @@
 //! "Readings that would be wrong" in document 01, and wrong readings of requests
-//! L1 and L2 of document 02, each as a test that the wrong reading fails.
+//! L1, L2 and L3 of document 02, each as a test that the wrong reading fails.
 
 use crate::counter::{counter_run, CYCLES};
 use crate::images::*;
 use crate::lent::refused;
+use crate::pins::inverted;
 use reference::{double, doubled_size, power_up, run, step, xor_byte, Verdict};
 
 // With a mark on a gate whenever a pin is marked, AND(3, 0) in cycle 2 would be
@@ -165,4 +166,62 @@ fn the_mark_register_of_an_unknown_one_starts_at_1() {
     power_up(&doubled, &mut state).unwrap();
     run(&doubled, 2, &mut state, &[1, 0, 0, 0], &mut outputs).unwrap();
     assert_eq!(outputs.map(|byte| byte % 2), [0, 1, 1, 0]);
+}
+
+// With the mark inverted too, a trusted INPUT behind an inverted pin would be a
+// flow, and an untrusted one would be clear. By the rule 0, 1, 2, 3 become 1, 0,
+// 3, 2. In the doubled netlist a bit on the mark pin would do the same: its rows
+// v, t are 0, 0; 1, 0; 0, 1; 1, 1, and v alone is inverted.
+#[test]
+fn an_inverted_pin_leaves_the_mark() {
+    let image = counted(&[(INPUT, 0, 0, 0), (OUT, inverted(0), 1, 0)]);
+    let mut outputs = [77; 4];
+    let answer = run(&image, 4, &mut [], &[0, 1, 2, 3], &mut outputs).unwrap();
+    assert_eq!((answer.cycle, answer.verdict), (2, Verdict::Flow(1)));
+    assert_eq!(outputs, [1, 0, 3, 2]);
+    let mut doubled = [77; 36];
+    double(&image, &mut doubled).unwrap();
+    let rows = [0, 0, 1, 0, 0, 1, 1, 1];
+    let mut outputs = [77; 8];
+    run(&doubled, 4, &mut [], &rows, &mut outputs).unwrap();
+    assert_eq!(outputs, [1, 0, 0, 0, 1, 1, 0, 1]);
+}
+
+// With the bit read at the register's own net, or at power-up, cycle 0 would
+// show 1. The register starts at 0 and shows 0, and at the clock it takes the
+// row's byte 0 inverted, which cycle 1 shows as 1. With the bit read at the
+// clock and again in the cycle, cycle 1 would show 0.
+#[test]
+fn a_register_is_inverted_at_the_clock_and_nowhere_else() {
+    let image = counted(&[(INPUT, 0, 0, 0), (REG, inverted(0), 0, 0), (OUT, 1, 0, 0)]);
+    let mut state = [77];
+    let mut outputs = [77; 3];
+    power_up(&image, &mut state).unwrap();
+    assert_eq!(state, [0]);
+    run(&image, 3, &mut state, &[0, 1, 0], &mut outputs).unwrap();
+    assert_eq!(outputs, [0, 1, 0]);
+    assert_eq!(state, [1]);
+}
+
+// The bit stands for the pin and not for its net or its gate. AND of both pins
+// inverted is 1 only if both nets are 0, where an inverted AND would be 1 unless
+// both are 1. Net 3 reads the same nets as they are.
+#[test]
+fn the_bit_inverts_neither_the_net_nor_the_gate() {
+    let image = counted(&[
+        (INPUT, 0, 0, 0),
+        (INPUT, 0, 0, 0),
+        (AND, inverted(0), inverted(1), 0),
+        (AND, 0, 1, 0),
+    ]);
+    for (row, ands) in [
+        ([0, 0], [1, 0]),
+        ([0, 1], [0, 0]),
+        ([1, 0], [0, 0]),
+        ([1, 1], [0, 1]),
+    ] {
+        let mut nets = [77; 4];
+        step(&image, &mut [], &row, &mut nets).unwrap();
+        assert_eq!(nets[2..], ands);
+    }
 }
