@@ -1,6 +1,6 @@
 -- Cycles on related rows and states: a relation of bytes that the gates keep holds of every byte that comes of them.
 -- Its instances: agreement, values, and codes.
-use Prim.Native.Nat.{ℕ, zero, suc, _≤_}
+use Prim.Native.Nat.{ℕ, zero, suc, _≤_, _<_}
 use native.Mathlib.Omega.{arith}
 use mathlib.Core.Path.{_≡_, refl}
 use mathlib.Core.List.{List, [], _∷_, Forall₂, Forall₂·nil, Forall₂·cons}
@@ -18,6 +18,7 @@ use Rattle.image.proofs.Pairs.{pairs-append, pairs-getD, pairs-take, pairs-drop
 use Rattle.refusals.proofs.Refusals.{Codes}
 use Rattle.net_checking.proofs.Passes.{Passes, is-const, is-input, is-reg, is-not, is-and, is-or, is-xor, is-mux, is-out}
 use Rattle.checking.proofs.Checked.{AllPass, nil, cons}
+use Rattle.cycle.specs.Codes.{Low}
 use Rattle.cycle.specs.Cycle.{Walk, pinByte, netByte, past, walk, bytesOf, Verdict, verdictFrom, outputsFrom, registers, clocked, Cycle, cycleOf, cyclesOf, outputsOf, stateAfter}
 use Rattle.cycle.proofs.Selections.{outputs-selected, registers-selected, selection-length, selections-related}
 
@@ -179,6 +180,22 @@ codes-outputs = outputs-related code-kept
 pub codes-cycle : {n : ℕ} {xs : List Net} {row st : List ℕ} → AllPass n 0 xs → Codes row → Codes st
     → Related Code AnyVerdicts (cycleOf xs row st) (cycleOf xs row st)
 codes-cycle ps = cycle-related {Q = AnyVerdicts} code-kept (λ i xs bs cs h. tt) ps
+
+-- codes are low, and so is what is read where there is no byte
+pub low-codes : {bs : List ℕ} → Codes bs → Low bs
+low-codes {bs} h = record { low = λ i. let m = pairs-getD i 0 (lit≤ tt) h in omega arith }
+
+-- what a pin reads of a code is one
+pub pin-code : (bs : List ℕ) (p : ℕ) → getD bs (pinNet p) 0 < 4 → pinByte gateByte bs p < 4
+unfolding pinByte
+pin-code bs p h = by-flag (inverted p)
+  where
+    x : ℕ
+    x = getD bs (pinNet p) 0
+
+    by-flag : (b : Bool) → cond b (gateByte 3 x 0 0) x < 4
+    by-flag true = let g : gateByte 3 x 0 0 ≤ 3 = gates-code 3 x x 0 0 0 0 (omega arith) (lit≤ tt) (lit≤ tt) in omega arith
+    by-flag false = h
 
 -- LENGTHS
 pub registers-length : (f : Net → ℕ) (xs : List Net) → length (registers f xs) ≡ count REG xs

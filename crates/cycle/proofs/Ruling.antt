@@ -5,7 +5,6 @@ use native.Mathlib.Omega.{arith}
 use mathlib.Core.Logic.{⊎-elim}
 use mathlib.Core.Path.{_≡_, refl, sym, _∙_}
 use mathlib.Core.List.{List}
-use lib.Dec.{lit<}
 use lib.ListN.{length, getD, take, drop}
 use lib.Seq.{ext-getD}
 use Rattle.gates.specs.Kinds.{INPUT, REG, OUT}
@@ -13,7 +12,7 @@ use Rattle.gates.specs.Rules.{gateByte}
 use Rattle.image.specs.declared.image.Net.{Net}
 use Rattle.image.specs.Image.{count}
 use Rattle.image.specs.Pins.{pinNet}
-use Rattle.image.proofs.PinNets.{plain-net}
+use Rattle.image.proofs.PinNets.{zero-net}
 use Rattle.net_checking.proofs.Passes.{Passes, is-const, is-input, is-reg, is-not, is-and, is-or, is-xor, is-mux, is-out}
 use Rattle.checking.proofs.Checked.{AllPass, nil, cons}
 use Rattle.cycle.specs.Cycle.{Rule, Walk, pinByte, netByte, bytesOf}
@@ -58,7 +57,7 @@ module _ {rule : Rule} (policy : PolicyUnread rule) where
 
       -- an operand that is not listed
       unlisted : 0 < i → pinByte rule (w .bytes) 0 ≡ pinByte rule (w′ .bytes) 0
-      unlisted l = reads 0 (rw (plain-net {0} (lit< tt)) l)
+      unlisted l = reads 0 (rw zero-net l)
 
       by-kind : {n : ℕ} {x : Net} → Passes n i x → netByte rule x w ≡ netByte rule x w′
       by-kind (is-const l) = refl

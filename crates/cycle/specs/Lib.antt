@@ -1,4 +1,5 @@
--- Clock cycles, the calls on them, and their answers.
+-- Clock cycles, the calls on them, their answers, and bytes that are codes.
 pub mod Cycle
 pub mod Calls
 pub mod Answers
+pub mod Codes

@@ -13,13 +13,20 @@ use Rattle.gates.specs.Kinds.{CONST, INPUT, REG}
 use Rattle.gates.specs.Rules.{gateByte}
 use Rattle.image.specs.declared.image.Net.{Net}
 use Rattle.image.specs.Image.{net, kindAt, operandAt, netAt}
+use Rattle.image.specs.Pins.{pinNet}
+use Rattle.image.proofs.PinNets.{zero-net, one-net}
 use Rattle.net_checking.proofs.Passes.{Passes, is-const, is-input, is-reg, is-not, is-and, is-or, is-xor, is-mux, is-out, passes}
 use Rattle.cycle.specs.Cycle.{pinByte, netByte}
+use Rattle.cycle.proofs.Ruling.{pin-same}
 use Rattle.cycle_parts.specs.Readable.{walkAt, Readable}
 
--- what an operand that is read as a pin of net i may be: a net below it; or 1, at net 1, where it is a policy
+-- what an operand that is read as a pin of net i may be: it names a net below it; or it is 1, at net 1, where it is a policy
 abbrev pub Read : (i p : ℕ) → Type 0
-Read i p = (p < i) ⊎ ((i ≡ 1) × (p ≡ 1))
+Read i p = (pinNet p < i) ⊎ ((i ≡ 1) × (p ≡ 1))
+
+-- an operand that is not listed
+unlisted : {i : ℕ} → 0 < i → Read i 0
+unlisted h = inl (rw zero-net h)
 
 pub record Gate (i : ℕ) (x : Net) : Type 0 where
   pub kind : x .kind < 9
@@ -28,10 +35,10 @@ pub record Gate (i : ℕ) (x : Net) : Type 0 where
   pub c : Read i (x .c)
 
 policy-read : (i b : ℕ) → 0 < i → b ≤ 1 → Read i b
-policy-read i zero h l = inl h
+policy-read i zero h l = unlisted h
 policy-read zero (suc b) h l = absurd (omega arith)
 policy-read (suc zero) (suc zero) h l = inr (refl, refl)
-policy-read (suc (suc i)) (suc zero) h l = inl (omega arith)
+policy-read (suc (suc i)) (suc zero) h l = inl (rw one-net (omega arith))
 policy-read (suc i) (suc (suc b)) h l = absurd (omega arith)
 
 -- the pins of a gate or OUT, of which those below net i are read, and those that are not listed are 0
@@ -39,12 +46,12 @@ gate-reads : {n i : ℕ} {x : Net} → Passes n i x → 3 ≤ x .kind → Gate i
 gate-reads (is-const p) h = absurd (omega arith)
 gate-reads is-input h = absurd (omega arith)
 gate-reads (is-reg p q) h = absurd (omega arith)
-gate-reads (is-not p) h = record { kind = lit< tt; a = inl p; b = inl (omega arith); c = inl (omega arith) }
-gate-reads (is-and p q) h = record { kind = lit< tt; a = inl p; b = inl q; c = inl (omega arith) }
-gate-reads (is-or p q) h = record { kind = lit< tt; a = inl p; b = inl q; c = inl (omega arith) }
-gate-reads (is-xor p q) h = record { kind = lit< tt; a = inl p; b = inl q; c = inl (omega arith) }
+gate-reads (is-not p) h = record { kind = lit< tt; a = inl p; b = unlisted (omega arith); c = unlisted (omega arith) }
+gate-reads (is-and p q) h = record { kind = lit< tt; a = inl p; b = inl q; c = unlisted (omega arith) }
+gate-reads (is-or p q) h = record { kind = lit< tt; a = inl p; b = inl q; c = unlisted (omega arith) }
+gate-reads (is-xor p q) h = record { kind = lit< tt; a = inl p; b = inl q; c = unlisted (omega arith) }
 gate-reads (is-mux p q r) h = record { kind = lit< tt; a = inl p; b = inl q; c = inl r }
-gate-reads {i = i} (is-out {b = b} p q) h = record { kind = lit< tt; a = inl p; b = policy-read i b (omega arith) q; c = inl (omega arith) }
+gate-reads {i = i} (is-out {b = b} p q) h = record { kind = lit< tt; a = inl p; b = policy-read i b (omega arith) q; c = unlisted (omega arith) }
 
 -- a net that is neither a gate nor OUT, INPUT or REG is a CONST
 const-value : {n i : ℕ} {x : Net} → Passes n i x → x .kind < 3 → (x .kind ≡ INPUT → ⊥) → (x .kind ≡ REG → ⊥) → (x .kind ≡ CONST) × (x .a ≤ 1)
@@ -65,23 +72,24 @@ module _ {s : List ℕ} {n : ℕ} {row state nets : List ℕ} {i inputs register
   unfolding netAt
   gate h = gate-reads (passes n i (netAt s n i) (asked .1 .passes)) h
 
-  -- an operand that is read: it is in range, the byte there is a code, and it is the byte that the pin reads
-  pub in-range : {p : ℕ} → Read i p → p < length nets
+  -- an operand that is read: its net is there, the byte of that net is a code, and the pin reads it
+  pub in-range : {p : ℕ} → Read i p → pinNet p < length nets
   in-range (inl l) = omega arith
-  in-range (inr e) = omega arith
+  in-range (inr e) = rw (e .1, one-net) (omega arith)
 
-  pub code-at : {p : ℕ} → Read i p → getD nets p 0 < 4
-  code-at {p} (inl l) = asked .1 .codes p l
-  code-at {p} (inr e) = rw (e .1, asked .1 .second (omega arith)) (lit< tt)
+  pub code-at : {p : ℕ} → Read i p → getD nets (pinNet p) 0 < 4
+  code-at {p} (inl l) = asked .1 .codes (pinNet p) l
+  code-at {p} (inr e) = rw (e .1, one-net, asked .1 .second (omega arith)) (lit< tt)
 
-  pin-at : {p : ℕ} → Read i p → pinByte (take i nets) p ≡ getD nets p 0
-  unfolding pinByte
-  pin-at {p} (inl l) = getD-take i nets p 0 l
-  pin-at {p} (inr e) = rw (e .0, e .1, asked .1 .second (omega arith)) (List·getD-eq-default (take 1 nets) 0 (rw length-take (omega arith)))
+  pin-at : {p : ℕ} → Read i p → pinByte gateByte (take i nets) p ≡ pinByte gateByte nets p
+  pin-at {p} (inl l) = pin-same gateByte (take i nets) nets p (getD-take i nets (pinNet p) 0 l)
+  pin-at {p} (inr e) =
+      pin-same gateByte (take i nets) nets p
+      (rw (e .0, e .1, one-net, asked .1 .second (omega arith)) (List·getD-eq-default (take 1 nets) 0 (rw length-take (omega arith))))
 
   pub gate-byte : 3 ≤ kindAt s i
       → netByte gateByte (netAt s n i) (walkAt row state nets i inputs registers)
-      ≡ gateByte (kindAt s i) (getD nets (operandAt s n i 0) 0) (getD nets (operandAt s n i 1) 0) (getD nets (operandAt s n i 2) 0)
+      ≡ gateByte (kindAt s i) (pinByte gateByte nets (operandAt s n i 0)) (pinByte gateByte nets (operandAt s n i 1)) (pinByte gateByte nets (operandAt s n i 2))
   unfolding netByte netAt
   gate-byte h =
       let g = gate h in

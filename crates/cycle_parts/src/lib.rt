@@ -1,5 +1,6 @@
 // The parts of a cycle, net by net: the bytes of all nets, the verdict and the clock; and the starts of power-up.
 mod nets;
+mod pins;
 mod registers;
 mod verdict;
 

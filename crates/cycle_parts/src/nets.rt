@@ -1,4 +1,5 @@
 // The bytes of all nets in a cycle.
+use crate::pins::pin_byte;
 use gates::INPUT;
 use gates::NOT;
 use gates::REG;
@@ -50,7 +51,10 @@ fn net_byte(
     if NOT <= kind {
         let b = operand_of(image, i, 1);
         let c = operand_of(image, i, 2);
-        let byte = gate_byte(t, kind, nets[a], nets[b], nets[c]);
+        let x = pin_byte(nets, a);
+        let y = pin_byte(nets, b);
+        let z = pin_byte(nets, c);
+        let byte = gate_byte(t, kind, x, y, z);
         return Taken {
             byte,
             inputs,

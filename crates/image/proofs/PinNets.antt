@@ -3,7 +3,7 @@ use Prim.Native.Nat.{ℕ, _+_, _*_, _-_, _/_, _%_, _≤_, _<_}
 use native.Mathlib.Omega.{arith}
 use mathlib.Core.Path.{_≡_, refl}
 use mathlib.Core.Bool.{Bool, true, false, cond}
-use lib.Dec.{eqb, leb}
+use lib.Dec.{eqb, leb, lit<}
 use borrow.Author.Tests.{eq-eqb, ne-eqb, leb-true, leb-false, le-leb, lt-leb}
 use Rattle.image.specs.Pins.{inverted, pinNet, likePin}
 
@@ -11,6 +11,12 @@ use Rattle.image.specs.Pins.{inverted, pinNet, likePin}
 pub plain-net : {p : ℕ} → p < 32768 → pinNet p ≡ p
 unfolding pinNet
 plain-net {p} h = rw (lt-leb 32768 p h)
+
+pub zero-net : pinNet 0 ≡ 0
+zero-net = plain-net (lit< tt)
+
+pub one-net : pinNet 1 ≡ 1
+one-net = plain-net (lit< tt)
 
 pub plain-pin : {p : ℕ} → p < 32768 → inverted p ≡ false
 plain-pin {p} h = lt-leb 32768 p h

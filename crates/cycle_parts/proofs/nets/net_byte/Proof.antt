@@ -1,13 +1,15 @@
 -- `cycle_parts::nets::net_byte` meets its contract: what is read is the byte of the net, by its kind.
-use Prim.Native.Nat.{_≤_, _<_}
+use Prim.Native.Nat.{ℕ, _≤_, _<_}
 use mathlib.Core.Path.{_≡_, sym, _∙_}
 use native.Mathlib.Omega.{arith}
-use lib.ListN.{length}
+use lib.ListN.{length, getD}
 use borrow.Author.Needs.{needs}
 use borrow.Author.Tests.{ne-eqb}
 use Rattle.gates.specs.Kinds.{CONST, INPUT, REG}
 use Rattle.image.specs.Image.{sizesOf, net, kindAt, operandAt}
-use Rattle.cycle_parts.proofs.Reading.{Gate, gate, in-range, code-at, gate-byte, input-byte, register-byte, const-byte, is-const-value}
+use Rattle.image.specs.Pins.{pinNet}
+use Rattle.cycle.proofs.Cycles.{pin-code}
+use Rattle.cycle_parts.proofs.Reading.{Read, Gate, gate, in-range, code-at, gate-byte, input-byte, register-byte, const-byte, is-const-value}
 use Rattle.cycle_parts.proofs.nets.net_byte.Statement.{statement}
 use Rattle.cycle_parts.proofs.nets.net_byte.Tie as tie
 
@@ -26,38 +28,54 @@ pins : (c : tie.Then1)
     Gate (args .i) (net (kindAt s (args .i)) (operandAt s n (args .i) 0) (operandAt s n (args .i) 1) (operandAt s n (args .i) 2))
 pins c = gate (start (c .before) .pre .1) (is-gate c)
 
-shared-slice-read-gate-byte : tie.Need-shared-slice-read-gate-byte
-shared-slice-read-gate-byte c =
-    let taken = c .before .before .before in
-    rw (taken .before .operand-of .ensures .0) (in-range (start (taken .before) .pre .1) (pins taken .a))
+-- a pin of it
+reads : (c : tie.Then1) {p q : ℕ}
+    → let args = start (c .before) .args in
+    p ≡ q → Read (args .i) q → p < 65536
+    → (p < 65536) × (pinNet p < length (args .nets .now)) × (getD (args .nets .now) (pinNet p) 0 < 4)
+reads c e r l = let pre = start (c .before) .pre in (l, rw e (in-range (pre .1) r), rw e (code-at (pre .1) r))
 
-shared-slice-read-gate-byte-2 : tie.Need-shared-slice-read-gate-byte-2
-shared-slice-read-gate-byte-2 c =
-    let at = c .before .before .before in
-    let taken = at .before in
-    rw (at .operand-of2 .ensures .0) (in-range (start (taken .before) .pre .1) (pins taken .b))
+pin-byte-requires : tie.Need-pin-byte-requires
+pin-byte-requires c κs =
+    let taken = c .before .before in
+    let pin = taken .before .operand-of .ensures in
+    reads taken (pin .0) (pins taken .a) (pin .1)
 
-shared-slice-read-gate-byte-3 : tie.Need-shared-slice-read-gate-byte-3
-shared-slice-read-gate-byte-3 c =
-    let at = c .before .before .before in
-    let taken = at .before .before in
-    rw (at .operand-of3 .ensures .0) (in-range (start (taken .before) .pre .1) (pins taken .c))
+pin-byte-requires-2 : tie.Need-pin-byte-requires-2
+pin-byte-requires-2 c κs =
+    let read = c .before .before in
+    let pin = read .operand-of2 .ensures in
+    reads (read .before) (pin .0) (pins (read .before) .b) (pin .1)
+
+pin-byte-requires-3 : tie.Need-pin-byte-requires-3
+pin-byte-requires-3 c κs =
+    let read = c .before .before in
+    let pin = read .operand-of3 .ensures in
+    reads (read .before .before) (pin .0) (pins (read .before .before) .c) (pin .1)
 
 gate-byte-requires : tie.Need-gate-byte-requires
 gate-byte-requires c κs =
-    let at = c .before .before .before in
-    let taken = at .before .before in
+    let second = c .before in
+    let first = second .before in
+    let read = first .before in
+    let taken = read .before .before in
     let pre = start (taken .before) .pre in
     let g = pins taken in
-    rw (taken .before .before .kind-of .ensures, taken .before .operand-of .ensures .0, at .before .operand-of2 .ensures .0, at .operand-of3 .ensures .0)
-    (pre .0, (g .kind, (code-at (pre .1) (g .a), code-at (pre .1) (g .b), code-at (pre .1) (g .c))))
+    let nets = start (taken .before) .args .nets .now in
+    rw (taken .before .before .kind-of .ensures, first .pin-byte .ensures, second .pin-byte2 .ensures, c .pin-byte3 .ensures, taken .before .operand-of .ensures .0, read .before .operand-of2 .ensures .0, read .operand-of3 .ensures .0)
+    (pre .0, (g .kind, (pin-code nets _ (code-at (pre .1) (g .a)), pin-code nets _ (code-at (pre .1) (g .b)), pin-code nets _ (code-at (pre .1) (g .c)))))
 
 returns : tie.Need-returns
 returns c =
-    let at = c .before .before .before .before in
-    let taken = at .before .before in
+    let third = c .before in
+    let second = third .before in
+    let first = second .before in
+    let read = first .before in
+    let taken = read .before .before in
     let pre = start (taken .before) .pre in
-    let byte = rw (taken .before .before .kind-of .ensures, taken .before .operand-of .ensures .0, at .before .operand-of2 .ensures .0, at .operand-of3 .ensures .0) at (c .gate-byte .ensures) in
+    let byte =
+    rw (taken .before .before .kind-of .ensures, first .pin-byte .ensures, second .pin-byte2 .ensures, third .pin-byte3 .ensures, taken .before .operand-of .ensures .0, read .before .operand-of2 .ensures .0, read .operand-of3 .ensures .0)
+    at (c .gate-byte .ensures) in
     let args = start (taken .before) .args in
     let k = kindAt (args .image .now) (args .i) in
     let gates : 3 ≤ k = is-gate taken in (
@@ -122,9 +140,9 @@ net-byte-spec =
     (λ c κs. search needs)
     (λ c κs. search needs)
     (λ c κs. search needs)
-    shared-slice-read-gate-byte
-    shared-slice-read-gate-byte-2
-    shared-slice-read-gate-byte-3
+    pin-byte-requires
+    pin-byte-requires-2
+    pin-byte-requires-3
     gate-byte-requires
     returns
     (λ c. input-there (c .before))

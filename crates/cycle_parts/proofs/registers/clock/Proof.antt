@@ -6,6 +6,7 @@ use mathlib.Core.Path.{_≡_, sym, _∙_}
 use lib.ListN.{length}
 use borrow.Author.Needs.{needs}
 use Rattle.gates.specs.Kinds.{REG}
+use Rattle.gates.specs.Rules.{gateByte}
 use Rattle.image.specs.Image.{kindAt, netAt}
 use Rattle.checking.proofs.Checked.{Checked, check-none, pin-below}
 use Rattle.cycle.specs.Cycle.{pinByte, clocked}
@@ -15,7 +16,7 @@ use Rattle.cycle_parts.proofs.registers.clock.Statement.{statement}
 use Rattle.cycle_parts.proofs.registers.clock.Tie as tie
 
 abbrev Inv-loop : tie.InvT-loop
-Inv-loop image n nets state₀ j₀ i₀ state j i = Pass (registers-selected (λ x. pinByte nets (x .a))) image n state₀ state j i
+Inv-loop image n nets state₀ j₀ i₀ state j i = Pass (registers-selected (λ x. pinByte gateByte nets (x .a))) image n state₀ state j i
 
 abbrev μ-loop : tie.MeasureT-loop
 μ-loop image n nets state₀ j₀ i₀ state j i = n - i
@@ -34,13 +35,17 @@ is-register : (c : tie.Then1 Inv-loop μ-loop)
     kindAt (at .before .before .before .before .args .image .now) (at .loop .i) ≡ REG
 is-register c = sym (c .before .kind-of .ensures) ∙ c .if1 .taken
 
-shared-slice-read-state : tie.Need-shared-slice-read-state Inv-loop μ-loop
-shared-slice-read-state c =
-    let read = c .before in
-    let turn = read .before .before .before in
+pin-byte-requires : tie.Need-pin-byte-requires Inv-loop μ-loop
+pin-byte-requires c κs =
+    let turn = c .before .before .before in
     let start = turn .before .before .before .before .before in
     let size = start .pre .1 in
-    rw (read .operand-of .ensures .0, ← size .0, size .1) (pin-below (checked start) (size .0) _ (turn .loop-test .taken) (is-register (read .before)))
+    let pin = c .operand-of .ensures in
+    (
+      pin .1,
+      rw (pin .0, ← size .0, size .1) (pin-below (checked start) (size .0) _ (turn .loop-test .taken) (is-register (c .before))),
+      size .3 .low _,
+    )
 
 -- a register has a byte in the state
 room : (c : tie.Then1 Inv-loop μ-loop) → let at = c .before .before .before in at .loop .j < length (at .loop .state)
@@ -55,13 +60,13 @@ add-j c =
     omega (arith, room then, then .before .before .before .loop .inv .size)
 
 loop-again : tie.Need-loop-again Inv-loop μ-loop
-unfolding pinByte netAt
+unfolding netAt
 loop-again c =
     let turn = c .before .before in
     let pass = turn .before .loop .inv in
     let below = turn .loop-test .taken in
     ⊎-elim
-    (λ w. rw (w .3, w .4, w .1 .ensures .0, ← pass .count-is) (pass-takes pass below (is-register (record { before = c .before; if1 = w .0 }))))
+    (λ w. rw (w .3, w .4, w .2 .ensures, w .1 .ensures .0, ← pass .count-is) (pass-takes pass below (is-register (record { before = c .before; if1 = w .0 }))))
     (λ w. rw (w .1, w .2) (pass-skips pass below (λ e. w .0 .left (c .before .kind-of .ensures ∙ e))))
     (c .if1 .came)
 
@@ -78,7 +83,7 @@ clock-spec =
     loop-holds
     (λ c κs. search needs)
     (λ c κs. pass-reads (c .before .before .before .loop .inv) (c .before .before .loop-test .taken) 0 (omega arith))
-    shared-slice-read-state
+    pin-byte-requires
     slice-write-state
     add-j
     (λ c. search needs)
