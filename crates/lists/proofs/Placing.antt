@@ -9,17 +9,20 @@ use mathlib.Core.List.{List, [], _∷_, _++_, map, append-nil}
 use mathlib.Core.Bool.{Bool, true, false, _&&_, cond}
 use lib.Dec.{eqb}
 use lib.ListN.{length, getD, take, drop, set, length-set, length-map, drop-of-length-le}
-use lib.Seq.{drop-cons, take-suc, take-suc-set, take-set-le, getD-set-same, getD-set-other}
+use lib.Seq.{drop-cons, take-suc, take-suc-set, take-set-le}
 use borrow.Author.Tests.{eqb-true, eqb-false}
 use Rattle.gates.specs.Kinds.{REG, OUT}
-use Rattle.gates.specs.Rules.{mark}
+use Rattle.gates.specs.Rules.{mark, gateByte}
 use Rattle.image.specs.declared.image.Net.{Net}
 use Rattle.image.specs.Image.{sizesOf, net, kindAt, operandAt, netAt, netsFrom, netsOf, count}
 use Rattle.image.proofs.Nets.{net-in, length-nets}
+use Rattle.cycle.specs.Codes.{Low}
 use Rattle.cycle.specs.Cycle.{pinByte, Verdict, clear, flow, outputsFrom, verdictFrom, clocked}
 use Rattle.cycle.proofs.Selections.{Selection, outputs-selected, registers-selected, selection-length, place-below, selection-place}
 use Rattle.cycle.proofs.Filling.{Pass, pass-takes, pass-skips, Filled, fill-begins, fill-goes-on, fill-length, fill-ends}
 use Rattle.cycle.proofs.Deciding.{below-or-here}
+use Rattle.inverses.specs.Inverses.{putBoth}
+use Rattle.inverses.proofs.Places.{put-size, put-here, put-other, put-keeps}
 use Rattle.lists.specs.Lists.{placesFrom, protectedOf, Within, Places, Put, firstMarked}
 
 -- THE LIST of the nets of kind k
@@ -62,8 +65,11 @@ places-differ k xs =
           sym (l .place) ∙ ap (λ p. count k (take p xs)) same ∙ r .place;
     }
 
-pub places-fit : {m n : ℕ} {list : List ℕ} → m ≡ n → Places n list → Places m list
-places-fit e p = rw e p
+within-fit : {m n : ℕ} {list : List ℕ} → n ≤ m → Within n list → Within m list
+within-fit e w = record { below = λ j h. let l = w .below j h in omega arith }
+
+pub places-fit : {m n : ℕ} {list : List ℕ} → n ≤ m → Places n list → Places m list
+places-fit e p = record { within = within-fit e (p .within); different = p .different }
 
 -- net i is listed at its place
 pub place-listed : (k : ℕ) (xs : List Net) (i : ℕ) (d : Net) → i < length xs → getD xs i d .kind ≡ k
@@ -109,22 +115,26 @@ module _ (s : List ℕ) {n : ℕ} (e : n ≡ sizesOf s .nets) (k : ℕ) where
 
 -- BYTES PUT to the listed nets
 pub put-begins : {list bytes nets : List ℕ} → Put list bytes nets nets 0
-put-begins = record { size = refl; taken = λ k h. absurd (omega arith); others = λ i h. refl }
+put-begins = record { size = refl; taken = λ k h. absurd (omega arith); others = λ i m h. refl; both = λ n m b. b }
 
-pub put-goes-on : {list bytes before after : List ℕ} {j n : ℕ} → Places n list → length before ≡ n → j < length list → Put list bytes before after j
-    → Put list bytes before (set after (getD list j 0) (getD bytes j 0)) (suc j)
-put-goes-on {list} {bytes} {before} {after} {j} places e h p =
+pub put-goes-on : {list bytes before after : List ℕ} {j : ℕ} → Places 8192 list → length before ≡ 40960 → Low bytes → j < length list → Put list bytes before after j
+    → Put list bytes before (putBoth after (getD list j 0) (getD bytes j 0)) (suc j)
+put-goes-on {list} {bytes} {before} {after} {j} places e low h p =
     let i = getD list j 0 in
     let b = getD bytes j 0 in
-    let there : i < length after = omega (arith, places .within .below j h, p .size) in
+    let small : i < 32768 = omega (arith, places .within .below j h) in
+    let there : 32768 + i < length after = omega (arith, places .within .below j h, p .size) in
     record {
-      size = length-set after i b ∙ p .size;
+      size = put-size after i b ∙ p .size;
       taken = λ k l.
           ⊎-elim
-          (λ o. rw o (getD-set-same after i b 0 there))
-          (λ m. getD-set-other after i (getD list k 0) b 0 (λ o. let x = places .different k j (omega arith) h o in omega arith) ∙ p .taken k m)
+          (λ o. rw o (put-here after i b small there))
+          (λ m.
+          let other = places .within .below k (omega arith) in
+          put-other after i b (omega arith) (λ o. let x = places .different k j (omega arith) h o in omega arith) ∙ p .taken k m)
           (below-or-here j k l);
-      others = λ x no. getD-set-other after i x b 0 (λ o. no j (omega arith) (sym o)) ∙ p .others x (λ k l. no k (omega arith));
+      others = λ x m no. put-other after i b m (λ o. no j (omega arith) (sym o)) ∙ p .others x m (λ k l. no k (omega arith));
+      both = λ n m q. put-keeps after i b small there m (low .low j) (p .both n m q);
     }
 
 -- BYTES TAKEN from the listed nets, each by a function of its net, in order
@@ -217,9 +227,9 @@ protected-within s {list = list} w = record { below = all-within s list (w .belo
 
 -- ALL NETS of an image: what the lists of its REGs and of its OUTs give
 module _ (s : List ℕ) {n : ℕ} (e : n ≡ sizesOf s .nets) (nets : List ℕ) where
-  pub clocked-listed : map (λ i. pinByte nets (operandAt s n i 0)) (placesFrom REG 0 (netsOf s)) ≡ clocked (netsOf s) nets
+  pub clocked-listed : map (λ i. pinByte gateByte nets (operandAt s n i 0)) (placesFrom REG 0 (netsOf s)) ≡ clocked gateByte (netsOf s) nets
   unfolding clocked netAt
-  clocked-listed = rw (all-nets s e 0) (gathered-selection (λ i. pinByte nets (operandAt s n i 0)) (registers-selected (λ x. pinByte nets (x .a))) s n (λ i. refl) 0 n)
+  clocked-listed = rw (all-nets s e 0) (gathered-selection (λ i. pinByte gateByte nets (operandAt s n i 0)) (registers-selected (λ x. pinByte gateByte nets (x .a))) s n (λ i. refl) 0 n)
 
   pub outputs-listed : map (λ i. getD nets i 0) (placesFrom OUT 0 (netsOf s)) ≡ outputsFrom 0 (netsOf s) nets
   outputs-listed = rw (all-nets s e 0) (gathered-selection (λ i. getD nets i 0) (outputs-selected nets) s n (λ i. refl) 0 n)

@@ -10,6 +10,7 @@ use Rattle.gates.specs.Kinds.{INPUT, REG, NOT, OUT}
 use Rattle.image.specs.declared.image.Net.{Net}
 use Rattle.image.specs.Image.{sizesOf, kindAt, operandAt, netsOf}
 use Rattle.cycle.specs.Cycle.{Verdict, clear, flow}
+use Rattle.inverses.specs.Inverses.{Both}
 use Rattle.lists.specs.declared.lists.Parts.{Parts}
 
 -- the numbers of the nets of kind k among nets, the first of which is net i, in net order
@@ -31,11 +32,12 @@ pub record Places (n : ℕ) (list : List ℕ) : Type 0 where
   pub within : Within n list
   pub different : (j k : ℕ) → j < length list → k < length list → getD list j 0 ≡ getD list k 0 → j ≡ k
 
--- the first j of the listed nets have taken their bytes, and no other net has changed
+-- the first j of the listed nets have taken their bytes, no other net has changed, and as many nets stand with their inverses as before
 pub record Put (list bytes before after : List ℕ) (j : ℕ) : Type 0 where
   pub size : length after ≡ length before
   pub taken : (k : ℕ) → k < j → getD after (getD list k 0) 0 ≡ getD bytes k 0
-  pub others : (i : ℕ) → ((k : ℕ) → k < j → getD list k 0 ≡ i → ⊥) → getD after i 0 ≡ getD before i 0
+  pub others : (i : ℕ) → i < 32768 → ((k : ℕ) → k < j → getD list k 0 ≡ i → ⊥) → getD after i 0 ≡ getD before i 0
+  pub both : (n : ℕ) → n ≤ 32768 → Both before n → Both after n
 
 -- the bytes of the listed nets
 abbrev pub gathered : (list nets : List ℕ) → List ℕ

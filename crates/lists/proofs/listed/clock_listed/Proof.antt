@@ -1,20 +1,24 @@
 -- `lists::listed::clock_listed` meets its contract. At j, the new bytes of the first j registers stand, and those of the others are left.
-use Prim.Native.Nat.{_≤_, _<_, _-_}
+use Prim.Native.Nat.{ℕ, _≤_, _<_, _-_}
 use borrow.Author.Needs.{needs}
 use native.Mathlib.Omega.{arith}
 use mathlib.Core.Path.{_≡_, refl, sym, ap, _∙_}
 use mathlib.Core.List.{map}
 use lib.ListN.{length, getD}
 use Rattle.gates.specs.Kinds.{REG}
+use Rattle.gates.specs.Rules.{gateByte}
 use Rattle.image.specs.Image.{sizesOf, kindAt, operandAt}
+use Rattle.image.specs.Pins.{pinNet}
+use Rattle.image.proofs.PinNets.{pin-most}
 use Rattle.checking.proofs.Checked.{Checked, check-none, pin-below}
 use Rattle.cycle.specs.Cycle.{pinByte}
+use Rattle.inverses.proofs.Places.{pin-place}
 use Rattle.lists.proofs.Placing.{Gathering, gather-begins, gather-goes-on, gather-room, gather-ends, listed-places, listed-kind, clocked-listed}
 use Rattle.lists.proofs.listed.clock_listed.Statement.{statement}
 use Rattle.lists.proofs.listed.clock_listed.Tie as tie
 
 abbrev Inv-loop : tie.InvT-loop
-Inv-loop image list nets state₀ j₀ state j = (j ≤ length list) × Gathering (λ i. pinByte nets (operandAt image (sizesOf image .nets) i 0)) list state j
+Inv-loop image list nets state₀ j₀ state j = (j ≤ length list) × Gathering (λ i. pinByte gateByte nets (operandAt image (sizesOf image .nets) i 0)) list state j
 
 abbrev μ-loop : tie.MeasureT-loop
 μ-loop image list nets state₀ j₀ state j = length list - j
@@ -36,6 +40,11 @@ module _ (c : tie.In-loop Inv-loop μ-loop) where
   is-register : kindAt (start .args .image .now) (getD (start .args .list .now) (c .before .loop .j) 0) ≡ REG
   is-register = listed-kind (start .args .image .now) refl REG (start .pre .1 .0) _ (c .loop-test .taken)
 
+  -- its pin names a net
+  named : {p : ℕ} → p ≡ operandAt (start .args .image .now) (sizesOf (start .args .image .now) .nets) (getD (start .args .list .now) (c .before .loop .j) 0) 0
+      → pinNet p < sizesOf (start .args .image .now) .nets
+  named e = rw e (pin-below checked refl _ listed-below is-register)
+
 cast-operand-of : tie.Need-cast-operand-of Inv-loop μ-loop
 cast-operand-of c = omega (arith, c .shared-slice-known4 .given (c .before .before .loop .j))
 
@@ -49,7 +58,8 @@ shared-slice-read-state c =
     let read = c .before in
     let turn = read .before .before in
     let pre = start turn .pre in
-    rw (read .operand-of .ensures .0, pre .0 .1) (pin-below (checked turn) refl _ (listed-below turn) (is-register turn))
+    let pin = read .operand-of .result in
+    omega (arith, pre .0 .1, named turn (read .operand-of .ensures .0), pin-most pin, checked turn .few-nets)
 
 slice-write-state : tie.Need-slice-write-state Inv-loop μ-loop
 slice-write-state c =
@@ -57,13 +67,13 @@ slice-write-state c =
     omega (arith, gather-room (turn .before .loop .inv .1), turn .loop-test .taken)
 
 loop-again : tie.Need-loop-again Inv-loop μ-loop
-unfolding pinByte
 loop-again c =
     let read = c .before in
     let turn = read .before .before in
     let at = turn .before in
     let below = turn .loop-test .taken in
-    (omega arith, rw (read .operand-of .ensures .0) (gather-goes-on below (at .loop .inv .1)))
+    let read-at = pin-place (start turn .pre .0 .2) (read .operand-of .result) (named turn (read .operand-of .ensures .0)) in
+    (omega arith, rw (read-at, read .operand-of .ensures .0) (gather-goes-on below (at .loop .inv .1)))
 
 returns : tie.Need-returns Inv-loop μ-loop
 returns c =
@@ -71,7 +81,7 @@ returns c =
     let begun = at .before .before .before .before .before in
     let args = begun .args in
     gather-ends (c .loop-test .left) (at .loop .inv .1)
-    ∙ ap (map (λ i. pinByte (args .nets .now) (operandAt (args .image .now) (sizesOf (args .image .now) .nets) i 0))) (begun .pre .1 .0)
+    ∙ ap (map (λ i. pinByte gateByte (args .nets .now) (operandAt (args .image .now) (sizesOf (args .image .now) .nets) i 0))) (begun .pre .1 .0)
     ∙ clocked-listed (args .image .now) refl (args .nets .now)
 
 pub clock-listed-spec : {M : Type 1} → statement M

@@ -3,7 +3,7 @@ use Prim.Native.Nat.{_≤_, _-_}
 use borrow.Author.Needs.{needs}
 use native.Mathlib.Numerals.{add-one}
 use native.Mathlib.Omega.{arith}
-use mathlib.Core.Path.{_≡_, refl}
+use mathlib.Core.Path.{_≡_}
 use lib.ListN.{length}
 use Rattle.lists.specs.Lists.{Put}
 use Rattle.lists.proofs.Placing.{put-begins, put-goes-on}
@@ -19,26 +19,34 @@ abbrev μ-loop : tie.MeasureT-loop
 loop-holds : tie.Need-loop-holds Inv-loop μ-loop
 loop-holds c = (omega arith, put-begins)
 
-cast-nets : tie.Need-cast-nets Inv-loop μ-loop
-cast-nets c = omega (arith, c .shared-slice-known2 .given (c .before .before .before .loop .j))
+-- a turn, and the entry of the function
+abbrev start : tie.At-loop Inv-loop μ-loop → tie.Start Inv-loop μ-loop
+start c = c .before .before .before .before
 
-slice-write-nets : tie.Need-slice-write-nets Inv-loop μ-loop
-slice-write-nets c =
-    let turn = c .before .before in
+cast-put-both : tie.Need-cast-put-both Inv-loop μ-loop
+cast-put-both c = omega (arith, c .shared-slice-known3 .given (c .before .before .before .loop .j))
+
+put-both-requires : tie.Need-put-both-requires Inv-loop μ-loop
+put-both-requires c κs =
+    let turn = c .before .before .before in
     let at = turn .before in
-    omega (arith, at .before .pre .1 .within .below _ (turn .loop-test .taken), at .loop .inv .1 .size)
+    let pre = start at .pre in
+    let below = pre .2 .within .below _ (turn .loop-test .taken) in
+    (omega arith, omega (arith, at .loop .inv .1 .size, pre .3), pre .1 .low _)
 
 loop-again : tie.Need-loop-again Inv-loop μ-loop
 loop-again c =
-    let turn = c .before .before in
+    let put = c .before .before in
+    let turn = put .before .before .before .before in
     let at = turn .before in
+    let pre = start at .pre in
     let below = turn .loop-test .taken in
-    (omega arith, rw (add-one (at .loop .j)) (put-goes-on (at .before .pre .1) refl below (at .loop .inv .1)))
+    (omega arith, rw (put .put-both .ensures, add-one (at .loop .j)) (put-goes-on (pre .2) (pre .3) (pre .1) below (at .loop .inv .1)))
 
 returns : tie.Need-returns Inv-loop μ-loop
 returns c =
     let at = c .before in
-    let e : at .loop .j ≡ length (at .before .args .list .now) = omega (arith, at .loop .inv .0, c .loop-test .left) in
+    let e : at .loop .j ≡ length (start at .args .list .now) = omega (arith, at .loop .inv .0, c .loop-test .left) in
     rw e at (at .loop .inv .1)
 
 pub put-bytes-spec : {M : Type 1} → statement M
@@ -50,9 +58,9 @@ put-bytes-spec =
     loop-holds
     (λ c. search needs)
     (λ c. search needs)
+    cast-put-both
     (λ c. search needs)
-    cast-nets
-    slice-write-nets
+    put-both-requires
     (λ c. search needs)
     (λ c. search needs)
     loop-again

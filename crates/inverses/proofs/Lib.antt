@@ -1,0 +1,2 @@
+-- Laws of nets that stand with their inverses.
+pub mod Places

@@ -1,0 +1,2 @@
+-- Nets with their inverses.
+pub mod Inverses
