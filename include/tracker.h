@@ -16,6 +16,11 @@
  *   7 MUX               nets below its own: gives a if c is 0, b if c is 1                            7
  *   8 OUT               a: a net below its own; b: 0 free, 1 protected                                2
  *
+ * An operand that names a net is a pin: a of REG, NOT and OUT, a and b of AND, OR and XOR, and all three of MUX. The top bit of a pin, TRACKER_INVERTED,
+ * says that the pin is inverted, and its other bits are the number of the net. An inverted pin reads the net's value inverted and its mark as it is:
+ * byte 0 as 1, 1 as 0, 2 as 3 and 3 as 2. A REG reads its pin at the clock, so that its start is taken as it stands. An operand that is no pin must not
+ * have the bit.
+ *
  * Every call takes byte buffers as a pointer and a length, and each length must be exactly the one that the call asks for: a longer buffer is refused
  * too. A call reads `image`, `row` and `rows`, and may write `state`, `nets`, `outputs` and `buffer`. It keeps no pointer, takes no memory but the
  * stack, and does not depend on earlier calls. A buffer that a call writes must not overlap another buffer of the same call. No pointer may be null,
@@ -41,6 +46,9 @@ extern "C" {
 /* The most nets of a netlist, and the most cycles of a run. */
 enum { TRACKER_MOST_NETS = 8192, TRACKER_MOST_CYCLES = 4096 };
 
+/* The top bit of a pin, which inverts it: TRACKER_INVERTED + 3 is an inverted pin on net 3. */
+enum { TRACKER_INVERTED = 32768 };
+
 /* The number of a clear verdict, which is no net's number. */
 enum { TRACKER_CLEAR = 65535 };
 
@@ -50,7 +58,7 @@ enum {
     TRACKER_NETS_OUT_OF_RANGE = 2, /* N is 0 or above 8,192 */
     TRACKER_IMAGE_LENGTH = 3,      /* not 8 + 7 x N */
     TRACKER_KIND = 4,              /* above 8; the place is the net */
-    TRACKER_PIN = 5,               /* not below its net, or a REG's not below N; the place is the net */
+    TRACKER_PIN = 5,               /* without its top bit not below its net, or a REG's not below N; the place is the net */
     TRACKER_VALUE = 6,             /* a CONST above 1, a start above 2, a policy above 1; the place is the net */
     TRACKER_UNLISTED_OPERAND = 7,  /* not 0; the place is the net */
     TRACKER_COUNTS = 8,            /* I, R or O is wrong */
@@ -100,7 +108,8 @@ uint64_t tracker_doubled_kind(const uint8_t *image, size_t image_length,
 /* Writes the doubled netlist, 8 + 7 x (its number of nets) bytes: tracker_image_length gives them for the answer of tracker_doubled_size. Register j
  * becomes two: 2j for its value, with the same start, and 2j + 1 for its mark, with start 1 where none is given and 0 otherwise. The values at outputs
  * 2j and 2j + 1, byte % 2, are the value and the mark of the source's output j. Marks within the doubled netlist say nothing of the source: register 2j
- * without a start wakes untrusted there. Answers 0, or one of the refusals 1 to 8 and 15 to 17. */
+ * without a start wakes untrusted there. Of the pins that stand for a pin of the source, those on a value net are inverted where that pin is, and those
+ * on a mark net never are. Answers 0, or one of the refusals 1 to 8 and 15 to 17. */
 uint64_t tracker_double(const uint8_t *image, size_t image_length,
                         uint8_t *buffer, size_t buffer_length);
 

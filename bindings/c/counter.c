@@ -20,8 +20,9 @@ static const uint8_t counter[50] = {
     1, 0, 1, 0, 0, 0,
 };
 
-/* Where operand b of nets 1 and 5 stands: behind 8 bytes of sizes, 6 kinds, and the 6 operand bytes of each net before, operand a comes first. */
-enum { START_OF_NET_1 = 8 + 6 + 6 * 1 + 2, POLICY_OF_NET_5 = 8 + 6 + 6 * 5 + 2 };
+/* Where operand a of net 5 and operand b of nets 1 and 5 stand: behind 8 bytes of sizes, 6 kinds, and the 6 operand bytes of each net before, operand a
+ * comes first. */
+enum { PIN_OF_NET_5 = 8 + 6 + 6 * 5, START_OF_NET_1 = 8 + 6 + 6 * 1 + 2, POLICY_OF_NET_5 = 8 + 6 + 6 * 5 + 2 };
 
 static void print_bytes(const char *name, const uint8_t *bytes, size_t length)
 {
@@ -124,6 +125,19 @@ static void run_without_start(void)
     power_up_and_run(unknown);
 }
 
+/* The OUT's pin on net 1 is inverted: the outputs have the other values, and the same marks. */
+static void run_with_inverted_pin(void)
+{
+    const unsigned pin = TRACKER_INVERTED + 1;
+    uint8_t inverted[sizeof counter];
+
+    memcpy(inverted, counter, sizeof counter);
+    inverted[PIN_OF_NET_5] = (uint8_t)(pin % 256);
+    inverted[PIN_OF_NET_5 + 1] = (uint8_t)(pin / 256);
+    printf("with an inverted output, ");
+    power_up_and_run(inverted);
+}
+
 /* Prints the nets of the doubled netlist, the bytes of its image, and its nets of each kind, CONST to OUT. Answers the bytes, or 0 after a refusal. */
 static size_t print_doubled_size(const uint8_t *image, size_t image_length)
 {
@@ -204,6 +218,7 @@ int main(void)
     answers_that_are_not_clear();
     power_up_and_run(counter);
     run_without_start();
+    run_with_inverted_pin();
     length = double_counter(doubled);
     run_doubled(doubled, length);
     check_damaged();

@@ -52,7 +52,7 @@ pub fn power_up(image: &[u8], state: &mut [u8]) -> Result<(), Refusal> {
 }
 
 /// Takes one cycle: works out all nets, gives the verdict, and then every
-/// register takes the byte of its net, all together.
+/// register takes the byte that its pin reads, all together.
 ///
 /// The state has R bytes and is rewritten, the row has I bytes, and `nets`
 /// takes the bytes of the N nets.
@@ -173,6 +173,9 @@ pub fn doubled_size(image: &[u8]) -> Result<DoubledSize, Refusal> {
 /// outputs 2j and 2j + 1 are the value and the mark of the source's output j.
 /// Marks within the doubled netlist say nothing of the source: register 2j
 /// without a start wakes untrusted there.
+///
+/// Of the pins that stand for a pin of the source, those on a value net are
+/// inverted where that pin is, and those on a mark net never are.
 ///
 /// # Errors
 ///

@@ -1,5 +1,9 @@
 //! The kinds of nets, as an image holds them, and the operands of each. An
 //! operand that a kind does not list is 0.
+//!
+//! An operand that names a net is a pin: operand a of REG, NOT and OUT, a and b
+//! of AND, OR and XOR, and all three of MUX. A pin with the bit [`INVERTED`]
+//! reads the other value of its net.
 
 /// A constant. Operand a is its value, 0 or 1.
 pub const CONST: u8 = 0;
@@ -22,3 +26,18 @@ pub const MUX: u8 = 7;
 /// An output, which passes net a on. Operand b is its policy, 0 for free and 1
 /// for protected.
 pub const OUT: u8 = 8;
+
+/// The top bit of a pin, whose other bits name its net. With this bit the pin
+/// reads the net's value inverted, 1 for 0 and 0 for 1, and the net's mark as it
+/// is. A register reads its pin at the clock, so its start is taken as it stands.
+/// An operand that is no pin must not have the bit.
+///
+/// ```
+/// use tracker::kinds::{AND, INVERTED};
+/// use tracker::Net;
+///
+/// // AND of net 2 and of the inverted net 3.
+/// let and = Net::new(AND, 2, INVERTED + 3, 0);
+/// assert_eq!(and.operands, [2, 32_771, 0]);
+/// ```
+pub const INVERTED: u16 = 32_768;

@@ -13,6 +13,9 @@
 //!   so 0 to 3. Mark 0 is trusted, mark 1 untrusted.
 //! - The *state* has a byte for each register, and a *row* a byte for each
 //!   input.
+//! - A *pin* is an operand that names a net, whose byte the gate, the OUT or, at
+//!   the clock, the register reads. With the bit [`kinds::INVERTED`] it reads the
+//!   net's value inverted and its mark as it is.
 //! - The *doubled netlist* is a netlist in which values and marks are both
 //!   ordinary values, worked out by gates.
 //!

@@ -16,7 +16,8 @@
 pub struct Net {
     /// The kind, one of [`kinds`](crate::kinds) in a netlist.
     pub kind: u8,
-    /// The operands a, b and c.
+    /// The operands a, b and c. A pin among them may have the bit
+    /// [`kinds::INVERTED`](crate::kinds::INVERTED).
     pub operands: [u16; 3],
 }
 

@@ -21,8 +21,8 @@ pub enum Reason {
     ImageLength = 3,
     /// 4: The kind is above 8. The place is the net.
     Kind = 4,
-    /// 5: A pin is not below its net, or a REG's pin is not below N. The place
-    /// is the net.
+    /// 5: A pin names no net below its own, or a REG's pin none below N. The bit
+    /// [`INVERTED`](crate::kinds::INVERTED) does not count. The place is the net.
     Pin = 5,
     /// 6: A CONST is above 1, a start above 2 or a policy above 1. The place is
     /// the net.
@@ -104,7 +104,7 @@ impl Reason {
             Reason::NetsOutOfRange => "N, the number of nets, is 0 or above 8,192",
             Reason::ImageLength => "the image's length is not 8 + 7 × N",
             Reason::Kind => "the kind is above 8",
-            Reason::Pin => "a pin is not below its net, or a REG's pin is not below N",
+            Reason::Pin => "a pin names no net below its own, or a REG's pin none below N",
             Reason::Value => "a CONST is above 1, a start above 2 or a policy above 1",
             Reason::UnlistedOperand => "an operand that the kind does not list is not 0",
             Reason::Counts => "I, R or O is not the number of INPUT, REG or OUT nets",

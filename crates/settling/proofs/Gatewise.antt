@@ -6,48 +6,24 @@ use mathlib.Core.Path.{_≡_, refl, sym, ap, _∙_}
 use mathlib.Core.List.{List, []}
 use mathlib.Core.Bool.{Bool, true, false, cond}
 use lib.Dec.{eqb, leb, lit<}
-use lib.ListN.{length, getD, set, length-set}
-use lib.Seq.{set-out, getD-set-same, getD-set-other}
-use borrow.Author.Tests.{eq-eqb, ne-eqb, leb-true, leb-false}
+use lib.ListN.{length, getD}
+use borrow.Author.Tests.{eq-eqb, ne-eqb, le-leb, leb-true, leb-false}
 use Rattle.gates.specs.Kinds.{CONST, NOT}
 use Rattle.gates.specs.Rules.{gateByte}
 use Rattle.gates.proofs.Laws.{gates-code}
 use Rattle.image.specs.declared.image.Net.{Net}
 use Rattle.image.specs.Image.{sizesOf, net, kindAt, operandAt, netAt}
+use Rattle.image.specs.Pins.{pinNet}
+use Rattle.image.proofs.PinNets.{zero-net, net-most, pin-most}
 use Rattle.net_checking.proofs.Passes.{Passes, is-const, is-input, is-reg, is-not, is-and, is-or, is-xor, is-mux, is-out}
 use Rattle.checking.proofs.Checked.{Checked, net-passes}
 use Rattle.cycle.specs.Cycle.{Walk, pinByte, netByte}
-use Rattle.cycle.proofs.Deciding.{same-or-not, below-or-here, there-or-not}
+use Rattle.cycle.proofs.Cycles.{pin-code}
+use Rattle.cycle.proofs.Deciding.{below-or-here}
 use Rattle.cycle.proofs.Ruling.{out-passes-on, same-byte}
-use Rattle.settling.specs.Settling.{Low, ruleAt, settledAt, Settled, Prepared}
-
--- BYTES 0 to 3
-pub low-set : {bs : List ℕ} (i v : ℕ) → Low bs → v < 4 → Low (set bs i v)
-low-set {bs} i v l h =
-    record {
-      low = λ j.
-          ⊎-elim
-          (λ e.
-          ⊎-elim
-          (λ m. let g : getD (set bs i v) j 0 ≡ v = ap (λ k. getD (set bs i v) k 0) e ∙ getD-set-same bs i v 0 m in rw g h)
-          (λ m. rw (set-out bs i v m) (l .low j))
-          (there-or-not i (length bs)))
-          (λ other. rw (getD-set-other bs i j v 0 other) (l .low j))
-          (same-or-not j i);
-    }
-
-pub rule-low : (s : List ℕ) {bs : List ℕ} (i : ℕ) → Low bs → ruleAt s bs i < 4
-unfolding ruleAt pinByte
-rule-low s {bs} i l =
-    let n = sizesOf s .nets in
-    let x = getD bs (operandAt s n i 0) 0 in
-    let y = getD bs (operandAt s n i 1) 0 in
-    let z = getD bs (operandAt s n i 2) 0 in
-    let p : x ≤ 3 = omega (arith, l .low (operandAt s n i 0)) in
-    let q : y ≤ 3 = omega (arith, l .low (operandAt s n i 1)) in
-    let r : z ≤ 3 = omega (arith, l .low (operandAt s n i 2)) in
-    let g : gateByte (kindAt s i) x y z ≤ 3 = gates-code (kindAt s i) x x y y z z p q r in
-    omega arith
+use Rattle.inverses.specs.Inverses.{putBoth, Both}
+use Rattle.inverses.proofs.Places.{put-size, put-here, put-other, put-keeps, put-next, pin-place}
+use Rattle.settling.specs.Settling.{ruleAt, settledAt, Settled, Prepared}
 
 -- THE RULE of a gate or OUT is that of the cycle, and depends on the bytes below it alone
 pub gate-rule : (s : List ℕ) (i : ℕ) (w : Walk) → NOT ≤ kindAt s i → netByte gateByte (netAt s (sizesOf s .nets) i) w ≡ ruleAt s (w .bytes) i
@@ -64,49 +40,81 @@ rule-same s bs cs i p h below =
 -- what a gate or OUT reads is there. Operand b of an OUT, its policy, is read as a pin is
 pub record Pins (n : ℕ) (x : Net) : Type 0 where
   pub kind : x .kind < 9
-  pub a : x .a < n
-  pub b : x .b < n
-  pub c : x .c < n
+  pub a : pinNet (x .a) < n
+  pub b : pinNet (x .b) < n
+  pub c : pinNet (x .c) < n
+
+unlisted : {n i : ℕ} → i < n → pinNet 0 < n
+unlisted l = rw zero-net (omega arith)
 
 gate-pins : {n i : ℕ} {x : Net} → Passes n i x → i < n → NOT ≤ x .kind → Pins n x
 gate-pins (is-const p) l h = absurd (omega arith)
 gate-pins is-input l h = absurd (omega arith)
 gate-pins (is-reg p q) l h = absurd (omega arith)
-gate-pins (is-not p) l h = record { kind = lit< tt; a = omega arith; b = omega arith; c = omega arith }
-gate-pins (is-and p q) l h = record { kind = lit< tt; a = omega arith; b = omega arith; c = omega arith }
-gate-pins (is-or p q) l h = record { kind = lit< tt; a = omega arith; b = omega arith; c = omega arith }
-gate-pins (is-xor p q) l h = record { kind = lit< tt; a = omega arith; b = omega arith; c = omega arith }
+gate-pins (is-not p) l h = record { kind = lit< tt; a = omega arith; b = unlisted l; c = unlisted l }
+gate-pins (is-and p q) l h = record { kind = lit< tt; a = omega arith; b = omega arith; c = unlisted l }
+gate-pins (is-or p q) l h = record { kind = lit< tt; a = omega arith; b = omega arith; c = unlisted l }
+gate-pins (is-xor p q) l h = record { kind = lit< tt; a = omega arith; b = omega arith; c = unlisted l }
 gate-pins (is-mux p q r) l h = record { kind = lit< tt; a = omega arith; b = omega arith; c = omega arith }
-gate-pins (is-out p q) l h = record { kind = lit< tt; a = omega arith; b = omega arith; c = omega arith }
+gate-pins (is-out {b = b} p q) l h = record { kind = lit< tt; a = omega arith; b = omega (arith, net-most b); c = unlisted l }
 
 pub pins-there : {s : List ℕ} → Checked s → (i : ℕ) → i < sizesOf s .nets → NOT ≤ kindAt s i
     → Pins (sizesOf s .nets) (net (kindAt s i) (operandAt s (sizesOf s .nets) i 0) (operandAt s (sizesOf s .nets) i 1) (operandAt s (sizesOf s .nets) i 2))
 unfolding netAt
 pins-there c i h g = gate-pins (net-passes c refl i h) h g
 
--- SETTLING may start at any net below which there is no gate and no OUT
-pub settle-begins : {s nets : List ℕ} {from : ℕ} → Low nets → ((i : ℕ) → i < from → kindAt s i < NOT) → Settled s nets nets from
-settle-begins l none = record { size = refl; sources = λ j h. refl; gates = λ j h g. let m = none j h in absurd (omega arith); codes = l }
+-- what a pin reads stands at the place that is its number, and is 0 to 3
+pub pin-there : {n : ℕ} (p : ℕ) → n ≤ 8192 → pinNet p < n → p < 40960
+pin-there p few h = omega (arith, pin-most p)
 
-module _ {s : List ℕ} (c : Checked s) {before nets : List ℕ} {i : ℕ} (h : i < sizesOf s .nets) (size : length nets ≡ sizesOf s .nets)
+pub pin-low : {bs : List ℕ} {n : ℕ} → Both bs n → (p : ℕ) → pinNet p < n → getD bs p 0 < 4
+pin-low {bs} both p h = rw (pin-place both p h) (pin-code bs p (both .codes (pinNet p) h))
+
+pub gate-low : (k x y z : ℕ) → x < 4 → y < 4 → z < 4 → gateByte k x y z < 4
+gate-low k x y z a b c =
+    let g : gateByte k x y z ≤ 3 = gates-code k x x y y z z (omega arith) (omega arith) (omega arith) in
+    omega arith
+
+rule-low : (s bs : List ℕ) (i : ℕ) → Both bs (sizesOf s .nets)
+    → Pins (sizesOf s .nets) (net (kindAt s i) (operandAt s (sizesOf s .nets) i 0) (operandAt s (sizesOf s .nets) i 1) (operandAt s (sizesOf s .nets) i 2))
+    → ruleAt s bs i < 4
+unfolding ruleAt
+rule-low s bs i both p = gate-low _ _ _ _ (pin-code bs _ (both .codes _ (p .a))) (pin-code bs _ (both .codes _ (p .b))) (pin-code bs _ (both .codes _ (p .c)))
+
+-- net i with its kind and its operands as they are read: it takes the code that the table has for what stands at the places of its pins
+module _ (s nets : List ℕ) (i : ℕ) {k a b c x : ℕ} (kind : k ≡ kindAt s i) (gate : NOT ≤ kindAt s i)
+    (a-is : a ≡ operandAt s (sizesOf s .nets) i 0) (b-is : b ≡ operandAt s (sizesOf s .nets) i 1) (c-is : c ≡ operandAt s (sizesOf s .nets) i 2)
+    (a-reads : getD nets a 0 ≡ pinByte gateByte nets a) (b-reads : getD nets b 0 ≡ pinByte gateByte nets b) (c-reads : getD nets c 0 ≡ pinByte gateByte nets c)
+    (code : x ≡ gateByte k (getD nets a 0) (getD nets b 0) (getD nets c 0)) where
+  pub takes-code : putBoth nets i x ≡ settledAt s i nets
+  unfolding settledAt ruleAt
+  takes-code = rw (code, a-reads, b-reads, c-reads, kind, a-is, b-is, c-is, le-leb NOT (kindAt s i) gate)
+
+-- SETTLING may start at any net below which there is no gate and no OUT
+pub settle-begins : {s nets : List ℕ} {from : ℕ} → Both nets (sizesOf s .nets) → ((i : ℕ) → i < from → kindAt s i < NOT) → Settled s nets nets from
+settle-begins b none = record { size = refl; sources = λ j m h. refl; gates = λ j h g. let m = none j h in absurd (omega arith); both = b }
+
+module _ {s : List ℕ} (c : Checked s) {before nets : List ℕ} {i : ℕ} (h : i < sizesOf s .nets) (size : length nets ≡ 40960)
     (w : Settled s before nets i) where
   -- a gate or OUT
-  takes : NOT ≤ kindAt s i → Settled s before (set nets i (ruleAt s nets i)) (suc i)
+  takes : NOT ≤ kindAt s i → Settled s before (putBoth nets i (ruleAt s nets i)) (suc i)
   takes g =
       let v = ruleAt s nets i in
-      let kept : (j : ℕ) → (j ≡ i → ⊥) → getD (set nets i v) j 0 ≡ getD nets j 0 = λ j o. getD-set-other nets i j v 0 o in
+      let few = c .few-nets in
+      let here = put-here nets i v (omega arith) (omega arith) in
+      let kept : (j : ℕ) → j < sizesOf s .nets → (j ≡ i → ⊥) → getD (putBoth nets i v) j 0 ≡ getD nets j 0 = λ j m o. put-other nets i v (omega arith) o in
       record {
-        size = length-set nets i v ∙ w .size;
-        sources = λ j l. kept j (λ o. let m = rw o at l in omega arith) ∙ w .sources j l;
+        size = put-size nets i v ∙ w .size;
+        sources = λ j m l. kept j m (λ o. let k = rw o at l in omega arith) ∙ w .sources j m l;
         gates = λ j l k.
             ⊎-elim
-            (λ o. rw o (getD-set-same nets i v 0 (omega arith) ∙ rule-same s nets (set nets i v) i (net-passes c refl i h) g (λ a m. sym (kept a (λ o. omega arith)))))
+            (λ o. rw o (here ∙ rule-same s nets (putBoth nets i v) i (net-passes c refl i h) g (λ a m. sym (kept a (omega arith) (λ o. omega arith)))))
             (λ m.
-            kept j (λ o. omega arith)
+            kept j (omega arith) (λ o. omega arith)
             ∙ w .gates j m k
-            ∙ rule-same s nets (set nets i v) j (net-passes c refl j (omega arith)) k (λ a m. sym (kept a (λ o. omega arith))))
+            ∙ rule-same s nets (putBoth nets i v) j (net-passes c refl j (omega arith)) k (λ a m. sym (kept a (omega arith) (λ o. omega arith))))
             (below-or-here i j l);
-        codes = low-set i v (w .codes) (rule-low s i (w .codes));
+        both = put-keeps nets i v (omega arith) (omega arith) (omega arith) (rule-low s nets i (w .both) (pins-there c i h g)) (w .both);
       }
 
   -- a net of another kind
@@ -116,10 +124,10 @@ module _ {s : List ℕ} (c : Checked s) {before nets : List ℕ} {i : ℕ} (h : 
         size = w .size;
         sources = w .sources;
         gates = λ j l k. ⊎-elim (λ o. let m = rw o at k in absurd (omega arith)) (λ m. w .gates j m k) (below-or-here i j l);
-        codes = w .codes;
+        both = w .both;
       }
 
-  either : (b : Bool) → leb NOT (kindAt s i) ≡ b → Settled s before (cond b (set nets i (ruleAt s nets i)) nets) (suc i)
+  either : (b : Bool) → leb NOT (kindAt s i) ≡ b → Settled s before (cond b (putBoth nets i (ruleAt s nets i)) nets) (suc i)
   either true o = takes (leb-true NOT (kindAt s i) o)
   either false o = stays (leb-false NOT (kindAt s i) o)
 
@@ -135,14 +143,17 @@ settled-at e w = rw e at w
 
 -- in two passes
 pub settled-so-far : {s before after : List ℕ} {i : ℕ} → Settled s before after i → Settled s after after i
-settled-so-far w = record { size = refl; sources = λ j h. refl; gates = w .gates; codes = w .codes }
+settled-so-far w = record { size = refl; sources = λ j m h. refl; gates = w .gates; both = w .both }
 
 pub settled-then : {s before middle after : List ℕ} {i j : ℕ} → Settled s before middle i → Settled s middle after j → Settled s before after j
-settled-then v w = record { size = w .size ∙ v .size; sources = λ j h. w .sources j h ∙ v .sources j h; gates = w .gates; codes = w .codes }
+settled-then v w = record { size = w .size ∙ v .size; sources = λ j m h. w .sources j m h ∙ v .sources j m h; gates = w .gates; both = w .both }
 
 -- PREPARING: each net below i has its constant, or 0
 abbrev pub firstByte : (s : List ℕ) (i : ℕ) → ℕ
 firstByte s i = cond (eqb (kindAt s i) CONST) (operandAt s (sizesOf s .nets) i 0 % 2) 0
+
+pub first-is : (s : List ℕ) (i : ℕ) {k a x : ℕ} → k ≡ kindAt s i → a ≡ operandAt s (sizesOf s .nets) i 0 → x ≡ cond (eqb k CONST) (a % 2) 0 → x ≡ firstByte s i
+first-is s i kind a-is e = e ∙ rw (kind, a-is)
 
 const-small : {n i : ℕ} {x : Net} → Passes n i x → x .kind ≡ CONST → x .a ≤ 1
 const-small (is-const p) h = p
@@ -163,16 +174,20 @@ first-low : (b : Bool) (a : ℕ) → cond b (a % 2) 0 < 4
 first-low true a = omega arith
 first-low false a = lit< tt
 
-pub prepare-begins : {s nets : List ℕ} → Prepared s nets 0
-prepare-begins = record { constants = λ j h. absurd (omega arith); codes = λ j h. absurd (omega arith) }
+pub chosen-low : (s : List ℕ) (i : ℕ) → firstByte s i < 4
+chosen-low s i = first-low (eqb (kindAt s i) CONST) (operandAt s (sizesOf s .nets) i 0)
 
-pub prepare-goes-on : {s nets : List ℕ} {i : ℕ} → Checked s → i < sizesOf s .nets → length nets ≡ sizesOf s .nets
-    → Prepared s nets i → Prepared s (set nets i (firstByte s i)) (suc i)
+pub prepare-begins : {s nets : List ℕ} → Prepared s nets 0
+prepare-begins = record { constants = λ j h. absurd (omega arith); both = record { codes = λ j h. absurd (omega arith); inverses = λ j h. absurd (omega arith) } }
+
+pub prepare-goes-on : {s nets : List ℕ} {i : ℕ} → Checked s → i < sizesOf s .nets → length nets ≡ 40960
+    → Prepared s nets i → Prepared s (putBoth nets i (firstByte s i)) (suc i)
 prepare-goes-on {s} {nets} {i} c h size p =
     let n = sizesOf s .nets in
     let v = firstByte s i in
-    let here : getD (set nets i v) i 0 ≡ v = getD-set-same nets i v 0 (omega arith) in
-    let kept : (j : ℕ) → j < i → getD (set nets i v) j 0 ≡ getD nets j 0 = λ j m. getD-set-other nets i j v 0 (λ o. omega arith) in
+    let few = c .few-nets in
+    let here : getD (putBoth nets i v) i 0 ≡ v = put-here nets i v (omega arith) (omega arith) in
+    let kept : (j : ℕ) → j < i → getD (putBoth nets i v) j 0 ≡ getD nets j 0 = λ j m. put-other nets i v (omega arith) (λ o. omega arith) in
     record {
       constants = λ j l k.
           ⊎-elim
@@ -182,9 +197,5 @@ prepare-goes-on {s} {nets} {i} c h size p =
           rw o (here ∙ rw (eq-eqb (kindAt s i) CONST m) small))
           (λ m. kept j m ∙ p .constants j m k)
           (below-or-here i j l);
-      codes = λ j l.
-          ⊎-elim
-          (λ o. let g : getD (set nets i v) j 0 ≡ v = ap (λ a. getD (set nets i v) a 0) o ∙ here in rw g (first-low (eqb (kindAt s i) CONST) (operandAt s n i 0)))
-          (λ m. rw (kept j m) (p .codes j m))
-          (below-or-here i j l);
+      both = put-next nets i v (omega arith) (omega arith) (chosen-low s i) (p .both);
     }

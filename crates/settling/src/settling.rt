@@ -1,10 +1,12 @@
-// The bytes of all gates and OUTs of a cycle, in one pass; the other nets have theirs already.
+// The bytes of all gates and OUTs of a cycle, in one pass; the other nets have theirs already. All nets stand with their inverses, so that a pin is the
+// place of what it reads, and there is no branch on its top bit.
 use gates::CONST;
 use gates::NOT;
 use gates::gate_byte;
 use image::kind_of;
 use image::operand_of;
 use image::sizes_of;
+use inverses::put_both;
 ghost use mathlib.Core.Path.{_≡_};
 ghost use mathlib.Core.Option.{none};
 ghost use mathlib.Core.Bool.{cond};
@@ -15,7 +17,8 @@ ghost use Rattle.gates.specs.Kinds.{CONST, NOT};
 ghost use Rattle.gates.specs.Table.{GateTable};
 ghost use Rattle.image.specs.Image.{sizesOf, kindAt};
 ghost use Rattle.checking.specs.Check.{checkRefusal};
-ghost use Rattle.settling.specs.Settling.{Low, settledAt, Settled, Prepared};
+ghost use Rattle.inverses.specs.Inverses.{Both};
+ghost use Rattle.settling.specs.Settling.{settledAt, Settled, Prepared};
 
 // The byte of a net before the first cycle, by its kind and operand a: a CONST's own, and 0 for the others. No branch on the kind.
 fn first_byte(kind: u8, a: usize) -> u8
@@ -27,12 +30,13 @@ fn first_byte(kind: u8, a: usize) -> u8
 
 // The bytes before the first cycle: a CONST's own, and 0 elsewhere.
 pub fn set_constants(image: &[u8], n: usize, nets: &mut [u8])
-    requires { ⌜ (checkRefusal (now image) ≡ none) × (n ≡ sizesOf (now image) .nets) × (length (now nets) ≡ n) ⌝ }
+    requires { ⌜ (checkRefusal (now image) ≡ none) × (n ≡ sizesOf (now image) .nets) × (length (now nets) ≡ 40960) ⌝ }
     ensures { λ r. ⌜ Prepared (now (image .entry)) (now (nets .exit)) n ⌝ }
 {
     let mut i: usize = 0;
     while i < n {
-        nets[i] = first_byte(kind_of(image, i), operand_of(image, i, 0));
+        let x = first_byte(kind_of(image, i), operand_of(image, i, 0));
+        put_both(nets, i, x);
         i += 1;
     }
 }
@@ -40,7 +44,7 @@ pub fn set_constants(image: &[u8], n: usize, nets: &mut [u8])
 // Net i takes its byte where it is a gate or OUT, and keeps the one that it has where not.
 fn settle(image: &[u8], t: &[u8; 576], i: usize, nets: &mut [u8])
     requires { ⌜ GateTable (now t) ⌝ }
-    requires { ⌜ (checkRefusal (now image) ≡ none) × (i < sizesOf (now image) .nets) × (length (now nets) ≡ sizesOf (now image) .nets) × Low (now nets) ⌝ }
+    requires { ⌜ (checkRefusal (now image) ≡ none) × (i < sizesOf (now image) .nets) × (length (now nets) ≡ 40960) × Both (now nets) (sizesOf (now image) .nets) ⌝ }
     ensures { λ r. ⌜ now (nets .exit) ≡ settledAt (now (image .entry)) i (now (nets .entry)) ⌝ }
 {
     let kind = kind_of(image, i);
@@ -48,7 +52,8 @@ fn settle(image: &[u8], t: &[u8; 576], i: usize, nets: &mut [u8])
         let a = operand_of(image, i, 0);
         let b = operand_of(image, i, 1);
         let c = operand_of(image, i, 2);
-        nets[i] = gate_byte(t, kind, nets[a], nets[b], nets[c]);
+        let x = gate_byte(t, kind, nets[a], nets[b], nets[c]);
+        put_both(nets, i, x);
     }
 }
 
@@ -56,7 +61,7 @@ fn settle(image: &[u8], t: &[u8; 576], i: usize, nets: &mut [u8])
 // below `from`.
 fn settle_fours(image: &[u8], n: usize, t: &[u8; 576], from: usize, nets: &mut [u8]) -> usize
     requires { ⌜ GateTable (now t) ⌝ }
-    requires { ⌜ (checkRefusal (now image) ≡ none) × (n ≡ sizesOf (now image) .nets) × (length (now nets) ≡ n) × Low (now nets) ⌝ }
+    requires { ⌜ (checkRefusal (now image) ≡ none) × (n ≡ sizesOf (now image) .nets) × (length (now nets) ≡ 40960) × Both (now nets) n ⌝ }
     requires { ⌜ (from ≤ n) × ((i : ℕ) → i < from → kindAt (now image) i < NOT) ⌝ }
     ensures { λ r. ⌜ (r ≤ n) × Settled (now (image .entry)) (now (nets .entry)) (now (nets .exit)) r ⌝ }
 {
@@ -75,7 +80,7 @@ fn settle_fours(image: &[u8], n: usize, t: &[u8; 576], from: usize, nets: &mut [
 // has it at hand for every operand that is read through the view.
 pub fn settle_nets(image: &[u8], t: &[u8; 576], from: usize, nets: &mut [u8])
     requires { ⌜ GateTable (now t) ⌝ }
-    requires { ⌜ (checkRefusal (now image) ≡ none) × (length (now nets) ≡ sizesOf (now image) .nets) × Low (now nets) ⌝ }
+    requires { ⌜ (checkRefusal (now image) ≡ none) × (length (now nets) ≡ 40960) × Both (now nets) (sizesOf (now image) .nets) ⌝ }
     requires { ⌜ (from ≤ sizesOf (now image) .nets) × ((i : ℕ) → i < from → kindAt (now image) i < NOT) ⌝ }
     ensures { λ r. ⌜ Settled (now (image .entry)) (now (nets .entry)) (now (nets .exit)) (sizesOf (now (image .entry)) .nets) ⌝ }
 {

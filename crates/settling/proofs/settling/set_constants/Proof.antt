@@ -4,15 +4,16 @@ use borrow.Author.Needs.{needs}
 use native.Mathlib.Numerals.{add-one}
 use native.Mathlib.Omega.{arith}
 use mathlib.Core.Path.{_≡_, sym, _∙_}
-use lib.ListN.{length, length-set}
+use lib.ListN.{length}
 use Rattle.checking.proofs.Checked.{Checked, check-none}
+use Rattle.inverses.proofs.Places.{put-size}
 use Rattle.settling.specs.Settling.{Prepared}
-use Rattle.settling.proofs.Gatewise.{prepare-begins, prepare-goes-on}
+use Rattle.settling.proofs.Gatewise.{firstByte, first-is, chosen-low, prepare-begins, prepare-goes-on}
 use Rattle.settling.proofs.settling.set_constants.Statement.{statement}
 use Rattle.settling.proofs.settling.set_constants.Tie as tie
 
 abbrev Inv-loop : tie.InvT-loop
-Inv-loop image n nets₀ i₀ nets i = (i ≤ n) × (length nets ≡ n) × Prepared image nets i
+Inv-loop image n nets₀ i₀ nets i = (i ≤ n) × (length nets ≡ 40960) × Prepared image nets i
 
 abbrev μ-loop : tie.MeasureT-loop
 μ-loop image n nets₀ i₀ nets i = n - i
@@ -32,21 +33,34 @@ operand-of-requires c κs =
     let start = turn .before .before .before .before in
     (rw (← start .pre .1) (turn .loop-test .taken), omega arith, checked start .exact)
 
-slice-write-nets : tie.Need-slice-write-nets Inv-loop μ-loop
-slice-write-nets c = let turn = c .before .before .before in omega (arith, turn .before .loop .inv .1, turn .loop-test .taken)
+-- the byte that was chosen
+module _ (c : tie.After-first-byte Inv-loop μ-loop) where
+  abbrev turn : tie.In-loop Inv-loop μ-loop
+  turn = c .before .before .before
+
+  abbrev start : tie.Start Inv-loop μ-loop
+  start = turn .before .before .before .before
+
+  chosen-is : c .first-byte .result ≡ firstByte (start .args .image .now) (turn .before .loop .i)
+  chosen-is = first-is (start .args .image .now) (turn .before .loop .i) (c .before .before .kind-of .ensures) (c .before .operand-of .ensures .0) (c .first-byte .ensures)
+
+put-both-requires : tie.Need-put-both-requires Inv-loop μ-loop
+put-both-requires c κs =
+    let chosen = c .before in
+    let at = turn chosen in
+    (omega (arith, checked (start chosen) .few-nets, start chosen .pre .1, at .loop-test .taken), omega (arith, at .before .loop .inv .1, checked (start chosen) .few-nets, start chosen .pre .1, at .loop-test .taken), rw (chosen-is chosen) (chosen-low (start chosen .args .image .now) (at .before .loop .i)))
 
 loop-again : tie.Need-loop-again Inv-loop μ-loop
 loop-again c =
-    let read = c .before in
-    let kind = read .before in
-    let turn = kind .before in
-    let at = turn .before in
-    let start = at .before .before .before in
-    let below = turn .loop-test .taken in (
+    let put = c .before .before in
+    let chosen = put .before .before in
+    let at = turn chosen .before in
+    let begun = start chosen in
+    let below = turn chosen .loop-test .taken in (
       omega arith,
-      length-set (at .loop .nets) (at .loop .i) (c .first-byte .result) ∙ at .loop .inv .1,
-      rw (c .first-byte .ensures, kind .kind-of .ensures, read .operand-of .ensures .0, add-one (at .loop .i))
-          (prepare-goes-on (checked start) (rw (← start .pre .1) below) (at .loop .inv .1 ∙ start .pre .1) (at .loop .inv .2)),
+      rw (put .put-both .ensures) (put-size _ _ _ ∙ at .loop .inv .1),
+      rw (put .put-both .ensures, chosen-is chosen, add-one (at .loop .i))
+          (prepare-goes-on (checked begun) (rw (← begun .pre .1) below) (at .loop .inv .1) (at .loop .inv .2)),
     )
 
 pub set-constants-spec : {M : Type 1} → statement M
@@ -59,7 +73,7 @@ set-constants-spec =
     kind-of-requires
     operand-of-requires
     (λ c κs. search needs)
-    slice-write-nets
+    put-both-requires
     (λ c. search needs)
     (λ c. search needs)
     loop-again

@@ -1,15 +1,18 @@
 -- `settling::settling::settle` meets its contract: a gate or OUT takes the code of the table, and another net keeps its byte.
 use Prim.Native.Nat.{ℕ, _+_, _*_, _≤_, _<_}
 use borrow.Author.Needs.{needs}
-use borrow.Author.Tests.{le-leb, lt-leb}
+use borrow.Author.Tests.{lt-leb}
 use native.Mathlib.Omega.{arith}
-use mathlib.Core.Path.{_≡_}
-use lib.ListN.{length}
+use mathlib.Core.Path.{_≡_, _∙_}
+use mathlib.Core.List.{List}
+use lib.ListN.{length, getD}
 use Rattle.image.specs.Image.{sizesOf, net, kindAt, operandAt}
+use Rattle.image.specs.Pins.{pinNet}
 use Rattle.checking.proofs.Checked.{Checked, check-none}
-use Rattle.cycle.specs.Cycle.{pinByte}
-use Rattle.settling.specs.Settling.{ruleAt, settledAt}
-use Rattle.settling.proofs.Gatewise.{Pins, pins-there}
+use Rattle.inverses.specs.Inverses.{Both}
+use Rattle.inverses.proofs.Places.{put-size, pin-place}
+use Rattle.settling.specs.Settling.{settledAt}
+use Rattle.settling.proofs.Gatewise.{Pins, pins-there, pin-there, pin-low, gate-low, takes-code}
 use Rattle.settling.proofs.settling.settle.Statement.{statement}
 use Rattle.settling.proofs.settling.settle.Tie as tie
 
@@ -40,40 +43,94 @@ pins c = let at = start (c .before) in pins-there (checked at) _ (at .pre .1 .1)
 reads : (c : tie.Start) → (k : _) → k < 3 → (c .args .i < n c) × (k < 3) × (length (c .args .image .now) ≡ 8 + 7 * n c)
 reads c k h = (c .pre .1 .1, h, checked c .exact)
 
+-- an operand names a net, as it was read
+named : {p q m : ℕ} → p ≡ q → pinNet q < m → pinNet p < m
+named e h = rw e h
+
+-- the pins a, b and c as they were read
+module _ (c : tie.After-operand-of3) where
+  abbrev second : tie.After-operand-of2
+  second = c .before
+
+  abbrev first : tie.After-operand-of
+  first = second .before
+
+  abbrev taken : tie.Then1
+  taken = first .before
+
+  abbrev begun : tie.Start
+  begun = start (taken .before)
+
+  few : n begun ≤ 8192
+  few = checked begun .few-nets
+
+  named-a : pinNet (first .operand-of .result) < n begun
+  named-a = named (first .operand-of .ensures .0) (pins taken .a)
+
+  named-b : pinNet (second .operand-of2 .result) < n begun
+  named-b = named (second .operand-of2 .ensures .0) (pins taken .b)
+
+  named-c : pinNet (c .operand-of3 .result) < n begun
+  named-c = named (c .operand-of3 .ensures .0) (pins taken .c)
+
+  there : (p : ℕ) → pinNet p < n begun → p < length (begun .args .nets .now)
+  there p h = rw (begun .pre .1 .2) (pin-there p few h)
+
+  both : Both (begun .args .nets .now) (n begun)
+  both = begun .pre .1 .3
+
 slice-read-gate-byte : tie.Need-slice-read-gate-byte
-slice-read-gate-byte c =
-    let read = c .before .before .before in
-    let taken = read .before in
-    rw (read .operand-of .ensures .0, start (taken .before) .pre .1 .2) (pins taken .a)
+slice-read-gate-byte c = let read = c .before in there read _ (named-a read)
 
 slice-read-gate-byte-2 : tie.Need-slice-read-gate-byte-2
-slice-read-gate-byte-2 c =
-    let read = c .before .before .before in
-    let taken = read .before .before in
-    rw (read .operand-of2 .ensures .0, start (taken .before) .pre .1 .2) (pins taken .b)
+slice-read-gate-byte-2 c = let read = c .before .before in there read _ (named-b read)
 
 slice-read-gate-byte-3 : tie.Need-slice-read-gate-byte-3
-slice-read-gate-byte-3 c =
-    let read = c .before .before .before in
-    let taken = read .before .before .before in
-    rw (read .operand-of3 .ensures .0, start (taken .before) .pre .1 .2) (pins taken .c)
+slice-read-gate-byte-3 c = let read = c .before .before .before in there read _ (named-c read)
+
+-- what is read there is 0 to 3
+module _ (c : tie.After-slice-known4) where
+  abbrev read : tie.After-operand-of3
+  read = c .before .before .before
+
+  abbrev nets : List ℕ
+  nets = begun read .args .nets .now
+
+  low-a : getD nets (first read .operand-of .result) 0 < 4
+  low-a = pin-low (both read) _ (named-a read)
+
+  low-b : getD nets (second read .operand-of2 .result) 0 < 4
+  low-b = pin-low (both read) _ (named-b read)
+
+  low-c : getD nets (read .operand-of3 .result) 0 < 4
+  low-c = pin-low (both read) _ (named-c read)
 
 gate-byte-requires : tie.Need-gate-byte-requires
 gate-byte-requires c κs =
-    let taken = c .before .before .before .before .before .before in
-    let pre = start (taken .before) .pre in
-    (pre .0, (rw (taken .before .kind-of .ensures) (pins taken .kind), (pre .1 .3 .low _, pre .1 .3 .low _, pre .1 .3 .low _)))
+    let at = taken (read c) in
+    (begun (read c) .pre .0, (rw (at .before .kind-of .ensures) (pins at .kind), (low-a c, low-b c, low-c c)))
+
+put-both-requires : tie.Need-put-both-requires
+put-both-requires c κs =
+    let gate = c .before in
+    let known = gate .before in
+    let at = begun (read known) in
+    (
+      omega (arith, at .pre .1 .1, few (read known)),
+      omega (arith, at .pre .1 .1, few (read known), at .pre .1 .2),
+      rw (gate .gate-byte .ensures) (gate-low _ _ _ _ (low-a known) (low-b known) (low-c known)),
+    )
 
 returns : tie.Need-returns
-unfolding settledAt ruleAt pinByte
 returns c =
-    let third = c .before .before .before .before in
-    let second = third .before in
-    let first = second .before in
-    let taken = first .before in
-    let kind = taken .before .kind-of .ensures in
-    let args = start (taken .before) .args in
-    rw (c .gate-byte .ensures, kind, first .operand-of .ensures .0, second .operand-of2 .ensures .0, third .operand-of3 .ensures .0, le-leb 3 (kindAt (args .image .now) (args .i)) (is-gate taken))
+    let put = c .before .before in
+    let gate = put .before .before in
+    let at = read (gate .before) in
+    let reads = pin-place (both at) in
+    put .put-both .ensures
+    ∙ takes-code _ _ _ (taken at .before .kind-of .ensures) (is-gate (taken at))
+    (first at .operand-of .ensures .0) (second at .operand-of2 .ensures .0) (at .operand-of3 .ensures .0)
+    (reads _ (named-a at)) (reads _ (named-b at)) (reads _ (named-c at)) (gate .gate-byte .ensures)
 
 returns-2 : tie.Need-returns-2
 unfolding settledAt
@@ -93,7 +150,7 @@ settle-spec =
     slice-read-gate-byte-2
     slice-read-gate-byte-3
     gate-byte-requires
-    (λ c. search needs)
-    (λ c. search needs)
+    put-both-requires
+    (λ c. let put = c .before .before in rw (put .put-both .ensures) (put-size _ _ _))
     returns
     returns-2)

@@ -9,7 +9,8 @@ use Rattle.gates.specs.Table.{GateTable}
 use Rattle.image.specs.Image.{sizesOf}
 use Rattle.checking.specs.Check.{checkRefusal}
 use Rattle.checking.proofs.Checked.{Checked, check-none}
-use Rattle.settling.specs.Settling.{Low, settledAt, Settled}
+use Rattle.inverses.specs.Inverses.{Both}
+use Rattle.settling.specs.Settling.{settledAt, Settled}
 use Rattle.settling.proofs.Gatewise.{settle-begins, settle-next}
 use Rattle.settling.proofs.settling.settle_fours.Statement.{statement}
 use Rattle.settling.proofs.settling.settle_fours.Tie as tie
@@ -21,7 +22,7 @@ abbrev μ-loop : tie.MeasureT-loop
 μ-loop image n t from nets₀ i₀ nets i = n - i
 
 loop-holds : tie.Need-loop-holds Inv-loop μ-loop
-loop-holds c = let pre = c .before .before .pre in (pre .1 .1 .0, settle-begins (pre .1 .0 .3) (pre .1 .1 .1))
+loop-holds c = let pre = c .before .before .pre in (pre .1 .1 .0, settle-begins (rw (pre .1 .0 .1) at (pre .1 .0 .3)) (pre .1 .1 .1))
 
 -- what each call of `settle` asks, and what it gives, wherever settling has come to
 module _ (c : tie.Start Inv-loop μ-loop) where
@@ -38,11 +39,11 @@ module _ (c : tie.Start Inv-loop μ-loop) where
     below : j < N
     below = omega (arith, c .pre .1 .0 .1)
 
-    size : length nets ≡ N
-    size = w .size ∙ c .pre .1 .0 .2 ∙ c .pre .1 .0 .1
+    size : length nets ≡ 40960
+    size = w .size ∙ c .pre .1 .0 .2
 
-    asked : GateTable (c .args .t .now) × ((checkRefusal (c .args .image .now) ≡ none) × (j < N) × (length nets ≡ N) × Low nets)
-    asked = (c .pre .0, (c .pre .1 .0 .0, below, size, w .codes))
+    asked : GateTable (c .args .t .now) × ((checkRefusal (c .args .image .now) ≡ none) × (j < N) × (length nets ≡ 40960) × Both nets N)
+    asked = (c .pre .0, (c .pre .1 .0 .0, below, size, w .both))
 
     next : {exit : List ℕ} {k : ℕ} → exit ≡ settledAt (c .args .image .now) j nets → k ≡ suc j → Settled (c .args .image .now) (c .args .nets .now) exit k
     next = settle-next checked below size w

@@ -3,7 +3,7 @@ use Prim.Native.Nat.{_≤_, _-_}
 use borrow.Author.Needs.{needs}
 use native.Mathlib.Numerals.{add-one}
 use native.Mathlib.Omega.{arith}
-use mathlib.Core.Path.{_≡_, sym, ap, _∙_}
+use mathlib.Core.Path.{_≡_, ap, _∙_}
 use lib.ListN.{length}
 use Rattle.image.specs.declared.image.Sizes.{Sizes}
 use Rattle.image.specs.Image.{sizesOf}
@@ -37,7 +37,7 @@ settle-fours-requires c κs =
     let sized = c .before in
     let pre = entry sized .pre in
     let e = nets-are sized in
-    (pre .0, ((pre .1 .0 .0, e, pre .1 .0 .1 ∙ sym e, pre .1 .0 .2), (rw e (pre .1 .1 .0), pre .1 .1 .1)))
+    (pre .0, ((pre .1 .0 .0, e, pre .1 .0 .1, rw e (pre .1 .0 .2)), (rw e (pre .1 .1 .0), pre .1 .1 .1)))
 
 loop-holds : tie.Need-loop-holds Inv-loop μ-loop
 loop-holds c = let w = c .before .before .settle-fours .ensures in (w .0, settled-so-far (w .1))
@@ -53,7 +53,7 @@ module _ (c : tie.At-loop Inv-loop μ-loop) where
   all : Settled (entry sized .args .image .now) (entry sized .args .nets .now) (c .loop .nets) (c .loop .i)
   all = settled-then (fours .settle-fours .ensures .1) (c .loop .inv .1)
 
-  size : length (c .loop .nets) ≡ sizesOf (entry sized .args .image .now) .nets
+  size : length (c .loop .nets) ≡ 40960
   size = all .size ∙ entry sized .pre .1 .0 .1
 
 settle-requires : tie.Need-settle-requires Inv-loop μ-loop
@@ -61,7 +61,7 @@ settle-requires c κs =
     let turn = c .before in
     let at = turn .before in
     let pre = entry (sized at) .pre in
-    (pre .0, (pre .1 .0 .0, rw (← nets-are (sized at)) (turn .loop-test .taken), size at, all at .codes))
+    (pre .0, (pre .1 .0 .0, rw (← nets-are (sized at)) (turn .loop-test .taken), size at, all at .both))
 
 loop-again : tie.Need-loop-again Inv-loop μ-loop
 loop-again c =
