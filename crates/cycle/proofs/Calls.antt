@@ -9,16 +9,17 @@ use mathlib.Core.Option.{Option, none, some}
 use lib.Dec.{eqb}
 use lib.ListN.{length, take, drop, length-drop}
 use lib.Seq.{length-take-le}
-use Rattle.gates.specs.Rules.{byte}
+use Rattle.gates.specs.Rules.{byte, gateByte}
 use Rattle.gates.proofs.Laws.{Code, byte-code}
 use Rattle.image.specs.Image.{sizesOf, netsOf}
 use Rattle.image.proofs.Pairs.{pairs-take, pairs-drop}
 use Rattle.refusals.specs.declared.answer.Refusal.{Refusal}
 use Rattle.refusals.proofs.Refusals.{accepted, Codes}
 use Rattle.checking.proofs.Checked.{Checked, check-none}
-use Rattle.cycle.specs.Cycle.{clocked, cycleOf, cyclesOf, stateAfter}
+use Rattle.cycle.specs.Codes.{Low}
+use Rattle.cycle.specs.Cycle.{bytesOf, clocked, cycleOf, cyclesOf, stateAfter}
 use Rattle.cycle.specs.Calls.{stateLength, refused, start, starts, powerUpRefusal, powerUpOf, asStep, stepRefusal, stepOf, asRun, runRefusal, runOf}
-use Rattle.cycle.proofs.Cycles.{registers-related, registers-length, codes-cycle}
+use Rattle.cycle.proofs.Cycles.{registers-related, registers-length, codes-cycle, low-codes}
 
 -- a refusal is given, or none
 pub either-way : {A : Type 0} (o : Option Refusal) → (o ≡ none → A) → ((r : Refusal) → o ≡ some r → A) → A
@@ -97,6 +98,11 @@ run-none s st k rows outputs = (
       (record { image = t .0; state = record { size = u .0; codes = u .1 .0 }; size = u .1 .1 .0; codes = u .1 .1 .1 .0 }, t .1 .0, u .1 .1 .1 .1),
   λ r. simp (accepted, check-none) (r .0 .image, (r .1, (r .0 .state .size, (r .0 .state .codes, (r .0 .size, (r .0 .codes, r .2)))))),
 )
+
+-- the bytes that are worked out for it are 0 to 3
+pub worked-low : {s st : List ℕ} {n : ℕ} {row : List ℕ} → Ready s st n row → Low (bytesOf gateByte (netsOf s) row st)
+unfolding cycleOf
+worked-low r = low-codes (codes-cycle (r .image .nets) (r .codes) (r .state .codes) .bytes)
 
 -- power-up leaves a state, and so does a cycle
 start-code : (b : ℕ) → start b ≤ 3

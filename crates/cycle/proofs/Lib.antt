@@ -7,3 +7,4 @@ pub mod Calls
 pub mod Filling
 pub mod Runs
 pub mod Ruling
+pub mod Alike

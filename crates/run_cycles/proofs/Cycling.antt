@@ -5,32 +5,25 @@ use native.Mathlib.Omega.{arith}
 use mathlib.Core.Logic.{⊎-elim}
 use mathlib.Core.Path.{_≡_, refl, sym, ap, _∙_}
 use mathlib.Core.List.{List}
-use lib.Dec.{lit≤, lit<}
-use lib.ListN.{length, getD, take, List·getD-eq-default}
-use lib.Seq.{getD-drop}
+use lib.Dec.{lit<}
+use lib.ListN.{length, getD, take}
+use lib.Seq.{getD-drop, getD-take, length-take-le}
 use Rattle.gates.specs.Kinds.{CONST, INPUT, REG, NOT}
 use Rattle.gates.specs.Rules.{gateByte}
 use Rattle.image.specs.declared.image.Net.{Net}
 use Rattle.image.specs.Image.{sizesOf, net, kindAt, operandAt, netAt, netsOf, count}
-use Rattle.image.proofs.Pairs.{pairs-getD}
 use Rattle.image.proofs.Nets.{net-in, length-nets}
-use Rattle.refusals.proofs.Refusals.{Codes}
-use Rattle.checking.proofs.Checked.{Checked}
-use Rattle.cycle.specs.Cycle.{Walk, netByte, bytesOf}
-use Rattle.cycle.proofs.Ruling.{sight, out-passes-on, ruled-bytes}
+use Rattle.checking.proofs.Checked.{Checked, net-passes}
+use Rattle.cycle.specs.Cycle.{Walk, netByte, bytesOf, verdictFrom, outputsFrom, clocked}
+use Rattle.cycle.proofs.Ruling.{sight, out-passes-on, same-byte, ruled-bytes}
+use Rattle.cycle.proofs.Alike.{outputs-alike, verdict-alike, clocked-alike}
 use Rattle.cycle.proofs.Deciding.{same-or-not, there-or-not}
 use Rattle.cycle.proofs.Selections.{selection-length}
 use Rattle.lists.specs.Lists.{placesFrom, Put}
 use Rattle.lists.proofs.Placing.{places-selected, place-listed, not-listed}
-use Rattle.settling.specs.Settling.{Low, Settled, Prepared}
+use Rattle.inverses.specs.Inverses.{Both}
+use Rattle.settling.specs.Settling.{Settled, Prepared}
 use Rattle.settling.proofs.Gatewise.{gate-rule}
-
--- codes are low, and so is what is read where there is no byte
-beyond : (bs : List ℕ) (i : ℕ) → length bs ≤ i → getD bs i 0 < 4
-beyond bs i h = rw (List·getD-eq-default bs 0 {n = i} h) (lit< tt)
-
-pub low-codes : {bs : List ℕ} → Codes bs → Low bs
-low-codes {bs} h = record { low = λ i. let m = pairs-getD i 0 (lit≤ tt) h in omega arith }
 
 -- the byte of a net that is no gate
 module _ (s : List ℕ) (i : ℕ) (w : Walk) where
@@ -69,13 +62,17 @@ module _ {s : List ℕ} (c : Checked s) where
         ap (λ j. getD after j 0) (sym (l .1)) ∙ p .taken (count k (take i (netsOf s))) (l .0)
 
     stays : (kindAt s i ≡ k → ⊥) → getD after i 0 ≡ getD before i 0
-    stays other = let p = rw are at put in p .others i (not-listed k (netsOf s) i blank (λ o. other (sym (kind-is i h) ∙ o)))
+    stays other = let p = rw are at put in p .others i (omega (arith, c .few-nets)) (not-listed k (netsOf s) i blank (λ o. other (sym (kind-is i h) ∙ o)))
 
-  module _ {row state nets₀ nets₁ nets₂ ins-list regs-list : List ℕ} (size : length nets₀ ≡ sizesOf s .nets) (prepared : Prepared s nets₀ (sizesOf s .nets))
+  module _ {row state nets₀ nets₁ nets₂ ins-list regs-list : List ℕ} (size : length nets₀ ≡ 40960) (prepared : Prepared s nets₀ (sizesOf s .nets))
       (ins-are : ins-list ≡ placesFrom INPUT 0 (netsOf s)) (regs-are : regs-list ≡ placesFrom REG 0 (netsOf s))
       (ins : Put ins-list row nets₀ nets₁ (length ins-list)) (regs : Put regs-list state nets₁ nets₂ (length regs-list)) where
-    pub put-size : length nets₂ ≡ sizesOf s .nets
+    pub put-size : length nets₂ ≡ 40960
     put-size = regs .size ∙ ins .size ∙ size
+
+    -- all nets stand with their inverses still
+    pub put-both : Both nets₂ (sizesOf s .nets)
+    put-both = let few : sizesOf s .nets ≤ 32768 = omega (arith, c .few-nets) in regs .both _ few (ins .both _ few (prepared .both))
 
     input-put : (i : ℕ) → i < sizesOf s .nets → kindAt s i ≡ INPUT → getD nets₂ i 0 ≡ getD row (count INPUT (take i (netsOf s))) 0
     input-put i h o = stays REG regs-are regs i h (λ q. omega arith) ∙ has INPUT ins-are ins i h o
@@ -89,35 +86,26 @@ module _ {s : List ℕ} (c : Checked s) where
     const-put : (i : ℕ) → i < sizesOf s .nets → kindAt s i ≡ CONST → getD nets₂ i 0 ≡ operandAt s (sizesOf s .nets) i 0
     const-put i h o = other-put i h (λ q. omega arith) (λ q. omega arith) ∙ prepared .constants i h o
 
-    -- all bytes are low where the row's and the state's are
-    pub put-low : Low row → Low state → Low nets₂
-    put-low r t =
-        record {
-          low = λ i.
-              ⊎-elim
-              (λ h.
-              ⊎-elim
-              (λ o. rw (input-put i h o) (r .low (count INPUT (take i (netsOf s)))))
-              (λ f.
-              ⊎-elim
-              (λ o. rw (register-put i h o) (t .low (count REG (take i (netsOf s)))))
-              (λ g. rw (other-put i h f g) (prepared .codes i h))
-              (same-or-not (kindAt s i) REG))
-              (same-or-not (kindAt s i) INPUT))
-              (λ h. beyond nets₂ i (omega (arith, put-size)))
-              (there-or-not i (sizesOf s .nets));
-        }
-
     -- the gates settled
     module _ {nets₃ : List ℕ} (w : Settled s nets₂ nets₃ (sizesOf s .nets)) where
+      -- the first n bytes, which are those of the nets
+      abbrev bytes : List ℕ
+      bytes = take (sizesOf s .nets) nets₃
+
+      first : (j : ℕ) → j < sizesOf s .nets → getD bytes j 0 ≡ getD nets₃ j 0
+      first j h = getD-take (sizesOf s .nets) nets₃ j 0 h
+
       abbrev seen : ℕ → Walk
       seen i = sight (netsOf s) row state nets₃ i
+
+      abbrev seen-first : ℕ → Walk
+      seen-first i = sight (netsOf s) row state bytes i
 
       by-kind : (i : ℕ) → i < sizesOf s .nets → getD nets₃ i 0 ≡ netByte gateByte (netAt s (sizesOf s .nets) i) (seen i)
       by-kind i h =
           ⊎-elim
           (λ source.
-          w .sources i source
+          w .sources i h source
           ∙ ⊎-elim
           (λ o. const-put i h o ∙ sym (const-is s i (seen i) o))
           (λ f.
@@ -134,21 +122,36 @@ module _ {s : List ℕ} (c : Checked s) where
           only : {k : ℕ} → k < 3 → (k ≡ 0 → ⊥) → (k ≡ 1 → ⊥) → k ≡ 2
           only h f g = omega arith
 
-      pub settled-bytes : nets₃ ≡ bytesOf gateByte (netsOf s) row state
+      by-kind-first : (i : ℕ) → i < sizesOf s .nets → getD bytes i 0 ≡ netByte gateByte (netAt s (sizesOf s .nets) i) (seen-first i)
+      by-kind-first i h =
+          first i h ∙ by-kind i h
+          ∙ same-byte out-passes-on (seen i) (seen-first i) (net-passes c refl i h) (λ j l. sym (first j (omega arith))) refl refl
+
+      pub settled-bytes : bytes ≡ bytesOf gateByte (netsOf s) row state
       settled-bytes =
           ruled-bytes out-passes-on (c .nets) row state
           (record {
-            size = w .size ∙ put-size ∙ sym (length-nets s);
-            byte = λ i d h. let l : i < sizesOf s .nets = omega (arith, length-nets s) in rw (net-in s _ i d refl l) (by-kind i l);
+            size = length-take-le _ nets₃ (omega (arith, w .size, put-size, c .few-nets)) ∙ sym (length-nets s);
+            byte = λ i d h. let l : i < sizesOf s .nets = omega (arith, length-nets s) in rw (net-in s _ i d refl l) (by-kind-first i l);
           })
           blank
 
       pub settled-prepared : Prepared s nets₃ (sizesOf s .nets)
-      settled-prepared =
-          record {
-            constants = λ i h o. w .sources i (rw o (lit< tt)) ∙ const-put i h o;
-            codes = λ i h. w .codes .low i;
-          }
+      settled-prepared = record { constants = λ i h o. w .sources i h (rw o (lit< tt)) ∙ const-put i h o; both = w .both }
+
+  -- what is read off the local array is what the bytes of the nets give
+  module _ (nets : List ℕ) where
+    nets-alike : (j : ℕ) → j < sizesOf s .nets → getD nets j 0 ≡ getD (take (sizesOf s .nets) nets) j 0
+    nets-alike j h = sym (getD-take (sizesOf s .nets) nets j 0 h)
+
+    pub verdict-off : verdictFrom 0 (netsOf s) nets ≡ verdictFrom 0 (netsOf s) (take (sizesOf s .nets) nets)
+    verdict-off = verdict-alike nets _ nets-alike 0 (netsOf s) (omega (arith, length-nets s))
+
+    pub outputs-off : outputsFrom 0 (netsOf s) nets ≡ outputsFrom 0 (netsOf s) (take (sizesOf s .nets) nets)
+    outputs-off = outputs-alike nets _ nets-alike 0 (netsOf s) (omega (arith, length-nets s))
+
+    pub clocked-off : clocked gateByte (netsOf s) nets ≡ clocked gateByte (netsOf s) (take (sizesOf s .nets) nets)
+    clocked-off = clocked-alike nets _ nets-alike gateByte (c .nets)
 
 -- WHAT A RUN FOUND fits the lent bytes
 pub list-size : (s : List ℕ) (k : ℕ) {list : List ℕ} → list ≡ placesFrom k 0 (netsOf s) → length list ≡ count k (netsOf s)

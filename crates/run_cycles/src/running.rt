@@ -1,4 +1,5 @@
-// The cycles of a run, by lists that are made once.
+// The cycles of a run, by lists that are made once. The bytes of the nets stand with their inverses in one local array: of n nets in the first n places and
+// in the n places from 32,768 on.
 use cycle::FirstFlow;
 use cycle::RunAnswer;
 use cycle::Verdict;
@@ -14,7 +15,7 @@ use settling::set_constants;
 use settling::settle_nets;
 ghost use mathlib.Core.Path.{_≡_};
 ghost use mathlib.Core.Option.{none};
-ghost use lib.ListN.{length};
+ghost use lib.ListN.{length, take};
 ghost use Rattle.gates.specs.Rules.{gateByte};
 ghost use Rattle.gates.specs.Table.{GateTable};
 ghost use Rattle.image.specs.Image.{sizesOf, netsOf};
@@ -35,9 +36,9 @@ fn work_out_listed(
     nets: &mut [u8],
 )
     requires { ⌜ GateTable (now t) ⌝ }
-    requires { ⌜ stepRefusal (now image) (now state) (now row) (now nets) ≡ none ⌝ }
+    requires { ⌜ (length (now nets) ≡ 40960) × (stepRefusal (now image) (now state) (now row) (take (sizesOf (now image) .nets) (now nets)) ≡ none) ⌝ }
     requires { ⌜ Found (now image) p (now list) × Prepared (now image) (now nets) (sizesOf (now image) .nets) ⌝ }
-    ensures { λ r. ⌜ now (nets .exit) ≡ bytesOf gateByte (netsOf (now (image .entry))) (now (row .entry)) (now (state .entry)) ⌝ }
+    ensures { λ r. ⌜ take (sizesOf (now (image .entry)) .nets) (now (nets .exit)) ≡ bytesOf gateByte (netsOf (now (image .entry))) (now (row .entry)) (now (state .entry)) ⌝ }
     ensures { λ r. ⌜ Prepared (now (image .entry)) (now (nets .exit)) (sizesOf (now (image .entry)) .nets) ⌝ }
 {
     let regs_at = p.regs;
@@ -65,7 +66,7 @@ fn cycle(
     outputs: &mut [u8],
 ) -> FirstFlow
     requires { ⌜ GateTable (now t) ⌝ }
-    requires { ⌜ stepRefusal (now image) (now state) (now row) (now nets) ≡ none ⌝ }
+    requires { ⌜ (length (now nets) ≡ 40960) × (stepRefusal (now image) (now state) (now row) (take (sizesOf (now image) .nets) (now nets)) ≡ none) ⌝ }
     requires { ⌜ Found (now image) p (now list) × Watched (now image) p (now protected) ⌝ }
     requires { ⌜ Prepared (now image) (now nets) (sizesOf (now image) .nets) × (length (now outputs) ≡ sizesOf (now image) .outputs) ⌝ }
     ensures { λ r. ⌜ firstFlowIn r
@@ -105,9 +106,9 @@ pub fn cycles(
     let t = table();
     let mut list = [0u16; 8192];
     let mut protected = [0u16; 8192];
-    let mut nets = [0u8; 8192];
+    let mut nets = [0u8; 40960];
     let p = find_parts(image, &mut list, &mut protected);
-    set_constants(image, n, &mut nets[..n]);
+    set_constants(image, n, &mut nets);
     let mut first = FirstFlow {
         cycle: k,
         verdict: Verdict::Clear,
@@ -128,7 +129,7 @@ pub fn cycles(
             c,
             &rows[row..row_end],
             state,
-            &mut nets[..n],
+            &mut nets,
             &mut outputs[out..out_end],
         );
         first = next;

@@ -1,25 +1,28 @@
 -- `run_cycles::running::cycle` meets its contract: the bytes of all nets are those of the cycle, and so are what is read off them.
-use Prim.Native.Nat.{_-_}
+use Prim.Native.Nat.{_-_, _≤_}
+use native.Mathlib.Omega.{arith}
 use mathlib.Core.Path.{_≡_, refl, sym, ap, _∙_}
 use mathlib.Core.List.{map}
 use lib.ListN.{length, getD}
 use lib.Seq.{length-take-le}
 use borrow.Author.Needs.{needs}
 use Rattle.gates.specs.Kinds.{REG, OUT}
+use Rattle.gates.specs.Rules.{gateByte}
 use Rattle.image.specs.Image.{sizesOf, netsOf}
 use Rattle.checking.proofs.Checked.{check-none}
 use Rattle.cycle.specs.Answers.{verdictIn, firstFlowIn}
+use Rattle.cycle.specs.Cycle as cycle
 use Rattle.cycle.specs.Cycle.{verdictFrom, outputsFrom, cycleOf, firstOf}
 use Rattle.cycle.proofs.Calls.{Ready, step-none}
 use Rattle.lists.specs.Lists.{Found, firstMarked}
 use Rattle.lists.proofs.Placing.{places-fit, listed-places, outputs-listed, protected-within, protected-verdict}
-use Rattle.run_cycles.proofs.Cycling.{list-size}
+use Rattle.run_cycles.proofs.Cycling.{verdict-off, outputs-off, clocked-off, list-size}
 use Rattle.run_cycles.proofs.running.cycle.Statement.{statement}
 use Rattle.run_cycles.proofs.running.cycle.Tie as tie
 
 module _ (c : tie.Start) where
   ready : Ready (c .args .image .now) (c .args .state .now) (sizesOf (c .args .image .now) .inputs) (c .args .row .now)
-  ready = step-none _ _ _ _ .0 (c .pre .1 .0) .0
+  ready = step-none _ _ _ _ .0 (c .pre .1 .0 .1) .0
 
   found : Found (c .args .image .now) (c .args .p) (c .args .list .now)
   found = c .pre .1 .1 .0 .0
@@ -29,15 +32,18 @@ module _ (c : tie.After-work-out-listed) where
   abbrev start : tie.Start
   start = c .before .before .before .before .before .before .before .before .before .before
 
-  size : length (c .work-out-listed .last .1 .1 .1 .1 .1 .1 .0) ≡ sizesOf (start .args .image .now) .nets
-  size = c .work-out-listed .kept .1 .1 .1 .1 .1 .1 .0 ∙ step-none _ _ _ _ .0 (start .pre .1 .0) .1
+  size : length (c .work-out-listed .last .1 .1 .1 .1 .1 .1 .0) ≡ 40960
+  size = c .work-out-listed .kept .1 .1 .1 .1 .1 .1 .0 ∙ start .pre .1 .0 .0
+
+  enough : sizesOf (start .args .image .now) .nets ≤ length (c .work-out-listed .last .1 .1 .1 .1 .1 .1 .0)
+  enough = omega (arith, size, ready start .image .few-nets)
 
 first-listed-requires : tie.Need-first-listed-requires
 first-listed-requires c κs =
     let worked = c .before .before .before .before .before .before in
     let begun = start worked in
     let s = begun .args .image .now in
-    let below = protected-within s (places-fit (size worked) (listed-places s refl OUT refl) .within) in
+    let below = protected-within s (places-fit (enough worked) (listed-places s refl OUT refl) .within) in
     rw (← begun .pre .1 .1 .0 .1 .are) at below
 
 take-bytes-requires : tie.Need-take-bytes-requires
@@ -46,7 +52,7 @@ take-bytes-requires c κs =
     let begun = start worked in
     let s = begun .args .image .now in
     let f = found begun in
-    (begun .pre .1 .1 .1 .1 ∙ ready begun .image .outputs ∙ sym (list-size s OUT (f .outs)), places-fit (size worked) (listed-places s refl OUT (f .outs)) .within)
+    (begun .pre .1 .1 .1 .1 ∙ ready begun .image .outputs ∙ sym (list-size s OUT (f .outs)), places-fit (enough worked) (listed-places s refl OUT (f .outs)) .within)
 
 clock-listed-requires : tie.Need-clock-listed-requires
 clock-listed-requires c κs =
@@ -55,7 +61,7 @@ clock-listed-requires c κs =
     let s = begun .args .image .now in
     let f = found begun in
     let r = ready begun in
-    ((check-none _ .1 (r .image), size worked), (f .regs, r .state .size ∙ r .image .registers ∙ sym (list-size s REG (f .regs))))
+    ((check-none _ .1 (r .image), size worked, worked .work-out-listed .ensures .1 .both), (f .regs, r .state .size ∙ r .image .registers ∙ sym (list-size s REG (f .regs))))
 
 returns : tie.Need-returns
 unfolding cycleOf
@@ -69,11 +75,13 @@ returns c =
     let f = found begun in
     let nets = worked .work-out-listed .last .1 .1 .1 .1 .1 .1 .0 in
     let done = worked .work-out-listed .ensures in
+    let image = ready begun .image in
     let earlier = begun .args .earlier in
-    let verdict = ap (λ l. firstMarked l nets) (begun .pre .1 .1 .0 .1 .are) ∙ protected-verdict s nets ∙ ap (λ bs. verdictFrom 0 (netsOf s) bs) (done .0) in
+    let verdict = ap (λ l. firstMarked l nets) (begun .pre .1 .1 .0 .1 .are) ∙ protected-verdict s nets ∙ verdict-off image nets ∙ ap (λ bs. verdictFrom 0 (netsOf s) bs) (done .0) in
     let first = judged .first-listed .ensures ∙ ap (λ v. firstOf (earlier .cycle) (verdictIn (earlier .verdict)) (firstOf (begun .args .c) v (firstFlowIn earlier))) verdict in
-    let outputs = taken .take-bytes .ensures ∙ ap (map (λ i. getD nets i 0)) (f .outs) ∙ outputs-listed s refl nets ∙ ap (λ bs. outputsFrom 0 (netsOf s) bs) (done .0) in
-    (first, (outputs, (rw (done .0) at (clocked .clock-listed .ensures), done .1)))
+    let outputs = taken .take-bytes .ensures ∙ ap (map (λ i. getD nets i 0)) (f .outs) ∙ outputs-listed s refl nets ∙ outputs-off image nets ∙ ap (λ bs. outputsFrom 0 (netsOf s) bs) (done .0) in
+    let state = clocked .clock-listed .ensures ∙ clocked-off image nets ∙ ap (λ bs. cycle.clocked gateByte (netsOf s) bs) (done .0) in
+    (first, (outputs, (state, done .1)))
 
 pub cycle-spec : {M : Type 1} → statement M
 cycle-spec =

@@ -20,21 +20,9 @@ use Rattle.settling.specs.Settling.{Prepared}
 use Rattle.run_cycles.proofs.running.cycles.Statement.{statement}
 use Rattle.run_cycles.proofs.running.cycles.Tie as tie
 
--- the net bytes of a run: the first n are prepared
-record Nets (s : List ℕ) (n : ℕ) (nets : List ℕ) : Type 0 where
-  size : length nets ≡ 8192
-  prepared : Prepared s (take n nets) (sizesOf s .nets)
-
-nets-back : {s : List ℕ} {n : ℕ} (ys nets : List ℕ) → length ys ≡ n → n ≤ length nets → length nets ≡ 8192 → Prepared s ys (sizesOf s .nets) → Nets s n (ys ++ drop n nets)
-nets-back {s} {n} ys nets e h l p =
-    record {
-      size = simp (length-append, length-drop) (omega arith);
-      prepared = rw (take-at ys (drop n nets) n e) p;
-    }
-
 abbrev Inv-loop : tie.InvT-loop
 Inv-loop image k state₀ rows outputs₀ z n t list protected nets₀ p first₀ row₀ out₀ c₀ state outputs nets first row out c =
-    (c ≤ k) × Running image k rows state₀ c (k - c) state outputs (firstFlowIn first) row out × Nets image n nets
+    (c ≤ k) × Running image k rows state₀ c (k - c) state outputs (firstFlowIn first) row out × (length nets ≡ 40960) × Prepared image nets (sizesOf image .nets)
 
 abbrev μ-loop : tie.MeasureT-loop
 μ-loop image k state₀ rows outputs₀ z n t list protected nets₀ p first₀ row₀ out₀ c₀ state outputs nets first row out c = k - c
@@ -74,16 +62,10 @@ module _ (c : tie.After-sizes-of Inv-loop μ-loop) where
 find-parts-requires : tie.Need-find-parts-requires Inv-loop μ-loop
 find-parts-requires c κs = let sized = c .before .before .before in (check-none _ .1 (accepted (begun sized) .image), refl, refl)
 
-array-borrow-prefix-nets : tie.Need-array-borrow-prefix-nets Inv-loop μ-loop
-array-borrow-prefix-nets c = nets-few (c .before .before .before .before .before .before)
-
-slice-aggregate-set-constants : tie.Need-slice-aggregate-set-constants Inv-loop μ-loop
-slice-aggregate-set-constants c = sym (length-take-le _ _ (nets-few (c .before .before .before .before .before .before .before)))
-
 set-constants-requires : tie.Need-set-constants-requires Inv-loop μ-loop
 set-constants-requires c κs =
     let sized = c .before .before .before .before .before .before .before in
-    (check-none _ .1 (accepted (begun sized) .image), nets-are sized, length-take-le _ _ (nets-few sized))
+    (check-none _ .1 (accepted (begun sized) .image), nets-are sized, refl)
 
 loop-holds : tie.Need-loop-holds Inv-loop μ-loop
 loop-holds c =
@@ -91,11 +73,11 @@ loop-holds c =
     let sized = set .before .before .before .before .before .before .before .before in
     let start = begun sized in
     let args = start .args in
-    let n = sized .sizes-of .result .nets in
     let all : args .k - 0 ≡ args .k = omega arith in (
       omega arith,
       rw all (run-begins (args .image .now) (args .state .now) (args .k) (args .rows .now) (args .outputs .now) (start .pre)),
-      nets-back (set .set-constants .last .1 .1 .0) _ (set .set-constants .kept .1 .1 .0 ∙ length-take-le _ _ (nets-few sized)) (nets-few sized) refl (rw (nets-are sized) at (set .set-constants .ensures)),
+      set .set-constants .kept .1 .1 .0,
+      rw (nets-are sized) at (set .set-constants .ensures),
     )
 
 -- what stands at the head of the loop
@@ -136,16 +118,6 @@ part-cycle-end c =
     let sized = sized-at (turn-at .before) in
     rw (sized .sizes-of .ensures) (row-fits (turn turn-at))
 
--- the net bytes of the run are enough for its nets
-nets-there : (c : tie.At-loop Inv-loop μ-loop) → sized-at c .sizes-of .result .nets ≤ length (c .loop .nets)
-nets-there c = omega (arith, c .loop .inv .2 .size, nets-few (sized-at c))
-
-array-borrow-prefix-nets-2 : tie.Need-array-borrow-prefix-nets-2 Inv-loop μ-loop
-array-borrow-prefix-nets-2 c = nets-there (c .before .before .before .before .before .before .before .before)
-
-slice-aggregate-cycle-3 : tie.Need-slice-aggregate-cycle-3 Inv-loop μ-loop
-slice-aggregate-cycle-3 c = sym (length-take-le _ _ (nets-there (c .before .before .before .before .before .before .before .before .before)))
-
 part-cycle-end-2 : tie.Need-part-cycle-end-2 Inv-loop μ-loop
 part-cycle-end-2 c =
     let turn-at = c .before .before .before .before .before .before .before .before in
@@ -167,10 +139,10 @@ cycle-requires c κs =
     let f : out + sized .sizes-of .result .outputs - out ≡ sizesOf s .outputs = omega (arith, ap (λ (z : Sizes). z .outputs) (sized .sizes-of .ensures)) in (
       tabled .table .ensures,
       (
-        rw e (step-none _ _ _ _ .1 (row-ready r, length-take-le _ _ (nets-there at) ∙ nets-are sized)),
+        (at .loop .inv .2, rw e (step-none _ _ _ _ .1 (row-ready r, length-take-le _ _ (omega (arith, at .loop .inv .2, accepted (begun sized) .image .few-nets))))),
         (
           found .find-parts .ensures,
-          (at .loop .inv .2 .prepared, rw f (length-take-le _ _ (rw length-drop (omega (arith, outputs-fit r))))),
+          (at .loop .inv .3, rw f (length-take-le _ _ (rw length-drop (omega (arith, outputs-fit r))))),
         ),
       ),
     )
@@ -207,15 +179,6 @@ module _ (c : tie.After-cycle Inv-loop μ-loop) where
       let z = sized .sizes-of .ensures in
       run-next (turn turn-of) (done .1 .1 .0) (done .1 .0) (done .0) (ap (λ (z : Sizes). z .inputs) z) (ap (λ (z : Sizes). z .outputs) z)
 
-  nets-next : let at = turn-of .before in
-      let n = sized-at at .sizes-of .result .nets in
-      Nets (begun-at at .args .image .now) n (c .cycle .last .1 .1 .1 .1 .1 .1 .1 .1 .1 .0 ++ drop n (at .loop .nets))
-  nets-next =
-      let at = turn-of .before in
-      let n = sized-at at .sizes-of .result .nets in
-      nets-back (c .cycle .last .1 .1 .1 .1 .1 .1 .1 .1 .1 .0) (at .loop .nets) (c .cycle .kept .1 .1 .1 .1 .1 .1 .1 .1 .1 .0 ∙ length-take-le n (at .loop .nets) (nets-there at))
-      (nets-there at) (at .loop .inv .2 .size) (c .cycle .ensures .1 .1 .1)
-
 add-c : tie.Need-add-c Inv-loop μ-loop
 add-c c = let turn-at = turn-of (c .before .before .before .before .before) in omega (arith, turn-at .loop-test .taken, run-none _ _ _ _ _ .0 (begun-at (turn-at .before) .pre) .1)
 
@@ -227,7 +190,8 @@ loop-again c =
     let z = sized-at at .sizes-of .result in (
       omega (arith, turn-at .loop-test .taken),
       rw (add-one (at .loop .c), post-is (at .loop .out) (at .loop .out + z .outputs) (at .loop .outputs) (omega arith)) (next called),
-      nets-next called,
+      called .cycle .kept .1 .1 .1 .1 .1 .1 .1 .1 .1 .0 ∙ at .loop .inv .2,
+      called .cycle .ensures .1 .1 .1,
     )
 
 same-length : tie.Need-same-length Inv-loop μ-loop
@@ -258,8 +222,7 @@ cycles-spec =
     (λ c. search needs)
     (λ c. search needs)
     find-parts-requires
-    array-borrow-prefix-nets
-    slice-aggregate-set-constants
+    (λ c. search needs)
     set-constants-requires
     loop-holds
     add-row-end
@@ -269,8 +232,7 @@ cycles-spec =
     (λ c. search needs)
     (λ c. search needs)
     part-cycle-end
-    array-borrow-prefix-nets-2
-    slice-aggregate-cycle-3
+    (λ c. sym (c .before .before .before .before .before .before .before .before .before .loop .inv .2))
     (λ c. search needs)
     (λ c. search needs)
     part-cycle-end-2

@@ -1,5 +1,5 @@
 -- `run_cycles::running::work_out_listed` meets its contract: with the sources in place and the gates settled, the bytes are those of the cycle.
-use Prim.Native.Nat.{_-_}
+use Prim.Native.Nat.{_-_, _≤_}
 use borrow.Author.Needs.{needs}
 use native.Mathlib.Omega.{arith}
 use mathlib.Core.Path.{_≡_, refl, sym, _∙_}
@@ -9,22 +9,26 @@ use Rattle.gates.specs.Kinds.{INPUT, REG}
 use Rattle.image.specs.Image.{sizesOf}
 use Rattle.checking.proofs.Checked.{check-none}
 use Rattle.cycle.proofs.Calls.{Ready, step-none}
+use Rattle.cycle.proofs.Cycles.{low-codes}
 use Rattle.lists.specs.Lists.{Found}
 use Rattle.lists.proofs.Placing.{places-fit, listed-places}
-use Rattle.settling.specs.Settling.{Low}
-use Rattle.run_cycles.proofs.Cycling.{low-codes, put-low, settled-bytes, settled-prepared, list-size}
+use Rattle.inverses.specs.Inverses.{Both}
+use Rattle.run_cycles.proofs.Cycling.{put-both, settled-bytes, settled-prepared, list-size}
 use Rattle.run_cycles.proofs.running.work_out_listed.Statement.{statement}
 use Rattle.run_cycles.proofs.running.work_out_listed.Tie as tie
 
 module _ (c : tie.Start) where
   ready : Ready (c .args .image .now) (c .args .state .now) (sizesOf (c .args .image .now) .inputs) (c .args .row .now)
-  ready = step-none _ _ _ _ .0 (c .pre .1 .0) .0
+  ready = step-none _ _ _ _ .0 (c .pre .1 .0 .1) .0
 
   found : Found (c .args .image .now) (c .args .p) (c .args .list .now)
   found = c .pre .1 .1 .0
 
-  size : length (c .args .nets .now) ≡ sizesOf (c .args .image .now) .nets
-  size = step-none _ _ _ _ .0 (c .pre .1 .0) .1
+  size : length (c .args .nets .now) ≡ 40960
+  size = c .pre .1 .0 .0
+
+  few : sizesOf (c .args .image .now) .nets ≤ 8192
+  few = ready .image .few-nets
 
 slice-aggregate-ins : tie.Need-slice-aggregate-ins
 slice-aggregate-ins c =
@@ -37,14 +41,14 @@ put-bytes-requires c κs =
     let s = start .args .image .now in
     let f = found start in
     let r = ready start in
-    (r .size ∙ r .image .inputs ∙ sym (list-size s INPUT (f .ins)), places-fit (size start) (listed-places s refl INPUT (f .ins)))
+    (r .size ∙ r .image .inputs ∙ sym (list-size s INPUT (f .ins)), low-codes (r .codes), places-fit (few start) (listed-places s refl INPUT (f .ins)), size start)
 
 -- after the first
 module _ (c : tie.After-put-bytes) where
   abbrev start₁ : tie.Start
   start₁ = c .before .before .before .before .before .before .before .before .before
 
-  size₁ : length (c .put-bytes .last .1 .1 .0) ≡ sizesOf (start₁ .args .image .now) .nets
+  size₁ : length (c .put-bytes .last .1 .1 .0) ≡ 40960
   size₁ = c .put-bytes .ensures .size ∙ size start₁
 
 put-bytes-requires-2 : tie.Need-put-bytes-requires-2
@@ -54,7 +58,7 @@ put-bytes-requires-2 c κs =
     let s = start .args .image .now in
     let f = found start in
     let r = ready start in
-    (r .state .size ∙ r .image .registers ∙ sym (list-size s REG (f .regs)), places-fit (size₁ first) (listed-places s refl REG (f .regs)))
+    (r .state .size ∙ r .image .registers ∙ sym (list-size s REG (f .regs)), low-codes (r .state .codes), places-fit (few start) (listed-places s refl REG (f .regs)), size₁ first)
 
 -- after the second
 module _ (c : tie.After-put-bytes2) where
@@ -64,21 +68,20 @@ module _ (c : tie.After-put-bytes2) where
   abbrev start₂ : tie.Start
   start₂ = start₁ first
 
-  size₂ : length (c .put-bytes2 .last .1 .1 .0) ≡ sizesOf (start₂ .args .image .now) .nets
+  size₂ : length (c .put-bytes2 .last .1 .1 .0) ≡ 40960
   size₂ = c .put-bytes2 .ensures .size ∙ size₁ first
 
-  low₂ : Low (c .put-bytes2 .last .1 .1 .0)
-  low₂ =
+  both₂ : Both (c .put-bytes2 .last .1 .1 .0) (sizesOf (start₂ .args .image .now) .nets)
+  both₂ =
       let f = found start₂ in
-      let r = ready start₂ in
-      put-low (r .image) (size start₂) (start₂ .pre .1 .1 .1) (f .ins) (f .regs) (first .put-bytes .ensures) (c .put-bytes2 .ensures) (low-codes (r .codes)) (low-codes (r .state .codes))
+      put-both (ready start₂ .image) (size start₂) (start₂ .pre .1 .1 .1) (f .ins) (f .regs) (first .put-bytes .ensures) (c .put-bytes2 .ensures)
 
 settle-nets-requires : tie.Need-settle-nets-requires
 settle-nets-requires c κs =
     let second = c .before .before .before in
     let start = start₂ second in
     let f = found start in
-    (start .pre .0, ((check-none _ .1 (ready start .image), size₂ second, low₂ second), (f .from-upto, f .none-below)))
+    (start .pre .0, ((check-none _ .1 (ready start .image), size₂ second, both₂ second), (f .from-upto, f .none-below)))
 
 returns : tie.Need-returns
 returns c =

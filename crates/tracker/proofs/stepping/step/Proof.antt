@@ -8,9 +8,10 @@ use Rattle.image.specs.declared.image.Sizes.{Sizes}
 use Rattle.image.specs.Image.{sizesOf}
 use Rattle.refusals.specs.Refusals.{refusalIn}
 use Rattle.checking.proofs.Checked.{check-none}
+use Rattle.cycle.specs.Codes.{Low}
 use Rattle.cycle.specs.Cycle.{cycleOf}
 use Rattle.cycle.specs.Calls.{stepRefusal, asStep}
-use Rattle.cycle.proofs.Calls.{Ready, step-accepted, step-refused, step-none}
+use Rattle.cycle.proofs.Calls.{Ready, worked-low, step-accepted, step-refused, step-none}
 use Rattle.tracker.proofs.stepping.step.Statement.{statement}
 use Rattle.tracker.proofs.stepping.step.Tie as tie
 
@@ -50,6 +51,12 @@ nets-size c =
     let sized = c .before .before .before .before .before in
     c .work-out .kept .1 .1 .1 .1 .1 .0 ∙ step-none _ _ _ _ .0 (accepted (sized .before)) .1 ∙ sym (nets-are sized)
 
+-- and they are 0 to 3
+nets-low : (c : tie.After-work-out) → Low (c .work-out .last .1 .1 .1 .1 .1 .0)
+nets-low c =
+    let r = ready (c .before .before .before .before .before .before) in
+    rw (c .work-out .ensures) (worked-low r)
+
 verdict-of-requires : tie.Need-verdict-of-requires
 verdict-of-requires c κs =
     let worked = c .before .before .before in
@@ -61,7 +68,7 @@ clock-requires c κs =
     let worked = c .before .before .before .before .before .before in
     let sized = worked .before .before .before .before .before in
     let r = ready (sized .before) in
-    (check-none _ .1 (r .image), (nets-are sized, nets-size worked, r .state .size))
+    (check-none _ .1 (r .image), (nets-are sized, nets-size worked, r .state .size, nets-low worked))
 
 returns-2 : tie.Need-returns-2
 unfolding cycleOf asStep
