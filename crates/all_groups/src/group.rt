@@ -1,5 +1,5 @@
-// The group of a net, by its kind: its nets are written in document 01's order, as the nets from v on of an image of `size` nets. The value net and
-// the mark net of pin a are a.value and a.mark, in comments va and ta; and so for b and c.
+// The group of a net, by its kind: its nets are written in document 01's order, as the nets from v on of an image of `size` nets. The value pin and
+// the mark pin of pin a are a.value and a.mark, in comments va and ta; and so for b and c.
 use gates::AND;
 use gates::CONST;
 use gates::INPUT;
@@ -28,7 +28,7 @@ fn mark_start(b: usize) -> usize
     if b == 2 { 1 } else { 0 }
 }
 
-// The group of a net x, from the value nets and mark nets of its pins.
+// The group of a net x, from the value pins and mark pins of its pins.
 pub fn put_group(d: &mut [u8], size: usize, v: usize, x: Net, a: Pair, b: Pair, c: Pair)
     requires { ⌜ (x .kind ≤ 8) × Room (now d) size v (groupLength (x .kind)) ⌝ }
     requires { ⌜ Fits x × PairFits a × PairFits b × PairFits c ⌝ }

@@ -12,7 +12,7 @@ use Rattle.gates.specs.Rules.{gateByte}
 use Rattle.image.specs.declared.image.Net.{Net}
 use Rattle.image.specs.Image.{count}
 use Rattle.image.specs.Pins.{pinNet}
-use Rattle.image.proofs.PinNets.{zero-net}
+use Rattle.image.proofs.PinNets.{plain-net, plain-pin, zero-net}
 use Rattle.net_checking.proofs.Passes.{Passes, is-const, is-input, is-reg, is-not, is-and, is-or, is-xor, is-mux, is-out}
 use Rattle.checking.proofs.Checked.{AllPass, nil, cons}
 use Rattle.cycle.specs.Cycle.{Rule, Walk, pinByte, netByte, bytesOf}
@@ -39,6 +39,11 @@ pub pass-at : {n k : ℕ} {xs : List Net} → AllPass n k xs → (i : ℕ) (d : 
 pass-at nil i d h = absurd (omega arith)
 pass-at {k = k} (cons p ps) zero d h = rw (add-zero k) p
 pass-at {k = k} (cons p ps) (suc i) d h = let e : k + suc i ≡ suc k + i = omega arith in rw e (pass-at ps i d (omega arith))
+
+-- a pin without the top bit reads the byte of the net with its number
+pub plain-reads : (rule : Rule) (bs : List ℕ) {p : ℕ} → p < 32768 → pinByte rule bs p ≡ getD bs p 0
+unfolding pinByte
+plain-reads rule bs h = rw (plain-pin h, plain-net h)
 
 -- what a pin reads depends on the byte of its net alone
 pub pin-same : (rule : Rule) (bs cs : List ℕ) (p : ℕ) → getD bs (pinNet p) 0 ≡ getD cs (pinNet p) 0 → pinByte rule bs p ≡ pinByte rule cs p

@@ -15,13 +15,15 @@ use Rattle.gates.proofs.Laws.{and-T}
 use Rattle.gates.proofs.Entries.{entry}
 use Rattle.image.specs.declared.image.Net.{Net}
 use Rattle.image.specs.Image.{net}
+use Rattle.image.specs.Pins.{pinNet}
+use Rattle.image.proofs.PinNets.{net-most, like-low}
 use Rattle.image.proofs.Pairs.{pairs-append, pairs-getD}
 use Rattle.image.proofs.Encoding.{nothing}
 use Rattle.net_checking.proofs.Passes.{kind-most, Passes, is-const, is-input, is-reg, is-not, is-and, is-or, is-xor, is-mux, is-out}
 use Rattle.checking.proofs.Checked.{AllPass, nil, cons}
 use Rattle.groups.specs.Groups.{groupLengths, groupLength, markStart, groupOf}
 use Rattle.groups.proofs.Groups.{mark-start-code}
-use Rattle.doubled.specs.Doubled.{doubledSize, valueNet, markNet, groupAt, groupsFrom, doubledNets}
+use Rattle.doubled.specs.Doubled.{doubledSize, valueNet, markNet, valuePin, markPin, groupAt, groupsFrom, doubledNets}
 
 pub below-or : (j i : ℕ) → j < suc i → (j < i) ⊎ (j ≡ i)
 below-or j i h = elim (decLt j i) [ yes k ↦ inl k | no k ↦ inr (omega arith) ]
@@ -64,7 +66,7 @@ shape v (suc (suc (suc (suc (suc (suc (suc (suc zero)))))))) a b c val mrk = rec
 shape v (suc (suc (suc (suc (suc (suc (suc (suc (suc k))))))))) a b c val mrk = record { long = refl; free = search freeing depth 20 }
 
 shape-at : (xs : List Net) (i : ℕ) (y : Net) → Shape (y .kind) (groupAt xs i y)
-shape-at xs i y = shape (valueNet xs i) (y .kind) (y .a) (y .b) (y .c) (valueNet xs) (markNet xs)
+shape-at xs i y = shape (valueNet xs i) (y .kind) (y .a) (y .b) (y .c) (valuePin xs) (markPin xs)
 
 pub group-length : (xs : List Net) (i : ℕ) (y : Net) → length (groupAt xs i y) ≡ groupLength (y .kind)
 group-length xs i y = shape-at xs i y .long
@@ -137,20 +139,30 @@ module _ (xs : List Net) (n : ℕ) (ps : AllPass n 0 xs) (j i : ℕ) (h : j < i)
   unfolding valueNet markNet
   mark-below = omega (arith, size-apart ps j (suc j) (omega arith) (omega arith), size-up xs (suc j) i (omega arith))
 
+-- PINS of a group: as net i's pins name nets before it, theirs name nets before the group
+module _ (xs : List Net) (n : ℕ) (ps : AllPass n 0 xs) (p i : ℕ) (h : pinNet p < i) (l : i ≤ length xs) where
+  pub value-pin-below : pinNet (valuePin xs p) < valueNet xs i
+  unfolding valuePin
+  value-pin-below = omega (arith, like-low p (valueNet xs (pinNet p)), value-below xs n ps (pinNet p) i h l)
+
+  pub mark-pin-below : pinNet (markPin xs p) < valueNet xs i
+  unfolding markPin
+  mark-pin-below = omega (arith, net-most (markNet xs (pinNet p)), mark-below xs n ps (pinNet p) i h l)
+
 up : {a v : ℕ} → a < v → a < suc v
 up h = omega arith
 
 -- the nets of a group that its later nets read
 record Earlier (v : ℕ) : Type 0 where
-  at-1 : v + 1 < suc (suc v)
-  at-2 : v + 2 < suc (suc (suc v))
-  at-3 : v + 3 < suc (suc (suc (suc v)))
-  at-4 : v + 4 < suc (suc (suc (suc (suc v))))
-  at-5 : v + 5 < suc (suc (suc (suc (suc (suc v)))))
-  at-6 : v + 6 < suc (suc (suc (suc (suc (suc (suc v))))))
+  at-1 : pinNet (v + 1) < suc (suc v)
+  at-2 : pinNet (v + 2) < suc (suc (suc v))
+  at-3 : pinNet (v + 3) < suc (suc (suc (suc v)))
+  at-4 : pinNet (v + 4) < suc (suc (suc (suc (suc v))))
+  at-5 : pinNet (v + 5) < suc (suc (suc (suc (suc (suc v)))))
+  at-6 : pinNet (v + 6) < suc (suc (suc (suc (suc (suc (suc v))))))
 
 earlier : (v : ℕ) → Earlier v
-earlier v = omega arith
+earlier v = omega (arith, net-most (v + 1), net-most (v + 2), net-most (v + 3), net-most (v + 4), net-most (v + 5), net-most (v + 6))
 
 zero-le-any : {n : ℕ} → 0 ≤ n
 zero-le-any = omega arith
@@ -162,8 +174,8 @@ ruleset passing = (nil, cons, is-const, is-input, is-reg, is-not, is-and, is-or,
 
 -- the group of a net that passes as net i of n, at v of D nets
 module _ (n i D v : ℕ) (val mrk : ℕ → ℕ)
-    (val-v : (j : ℕ) → j < i → val j < v) (mrk-v : (j : ℕ) → j < i → mrk j < v)
-    (val-D : (j : ℕ) → j < n → val j < D) (mrk-D : (j : ℕ) → j < n → mrk j < D) (new : Earlier v) where
+    (val-v : (p : ℕ) → pinNet p < i → pinNet (val p) < v) (mrk-v : (p : ℕ) → pinNet p < i → pinNet (mrk p) < v)
+    (val-D : (p : ℕ) → pinNet p < n → pinNet (val p) < D) (mrk-D : (p : ℕ) → pinNet p < n → pinNet (mrk p) < D) (new : Earlier v) where
   group-passes : {x : Net} → Passes n i x → AllPass D v (groupOf v x val mrk)
   unfolding groupOf
   group-passes (is-const h) = search passing depth 20
@@ -191,11 +203,11 @@ groups-pass {xs} {n} ps e (cons {i = i} {x = y} {xs = ys} p qs) (next l ls) f =
     let d = value-end xs n (omega arith) in
     let i≤ : i ≤ length xs = omega arith in
     let here =
-    group-passes n i (doubledSize xs) v (valueNet xs) (markNet xs)
-    (λ j h. omega (arith, value-below xs n ps j i h i≤))
-    (λ j h. mark-below xs n ps j i h i≤)
-    (λ j h. omega (arith, value-below xs n ps j n h (omega arith)))
-    (λ j h. omega (arith, mark-below xs n ps j n h (omega arith)))
+    group-passes n i (doubledSize xs) v (valuePin xs) (markPin xs)
+    (λ p h. value-pin-below xs n ps p i h i≤)
+    (λ p h. mark-pin-below xs n ps p i h i≤)
+    (λ p h. omega (arith, value-pin-below xs n ps p n h (omega arith)))
+    (λ p h. omega (arith, mark-pin-below xs n ps p n h (omega arith)))
     (earlier v)
     p in
     let at : valueNet xs (suc i) ≡ v + length g = rw (group-length xs i y) l in
@@ -244,7 +256,7 @@ mark-second xs i h = omega arith
 module _ (xs : List Net) (i : ℕ) (h : i < length xs) (e : getD xs i nothing .kind ≡ 2) where
   register-group :
       groupAt xs i (getD xs i nothing)
-      ≡ net 2 (valueNet xs (getD xs i nothing .a)) (getD xs i nothing .b) 0 ∷ net 2 (markNet xs (getD xs i nothing .a)) (markStart (getD xs i nothing .b)) 0 ∷ []
+      ≡ net 2 (valuePin xs (getD xs i nothing .a)) (getD xs i nothing .b) 0 ∷ net 2 (markPin xs (getD xs i nothing .a)) (markStart (getD xs i nothing .b)) 0 ∷ []
   unfolding groupOf
   register-group = rw e
 
@@ -252,10 +264,10 @@ module _ (xs : List Net) (i : ℕ) (h : i < length xs) (e : getD xs i nothing .k
   unfolding groupLength groupLengths
   two-nets = rw e
 
-  pub value-register : getD (doubledNets xs) (valueNet xs i) nothing ≡ net 2 (valueNet xs (getD xs i nothing .a)) (getD xs i nothing .b) 0
+  pub value-register : getD (doubledNets xs) (valueNet xs i) nothing ≡ net 2 (valuePin xs (getD xs i nothing .a)) (getD xs i nothing .b) 0
   value-register = rw (add-zero, register-group) at (group-net xs i 0 h (omega (arith, two-nets)))
 
-  pub mark-register : getD (doubledNets xs) (markNet xs i) nothing ≡ net 2 (markNet xs (getD xs i nothing .a)) (markStart (getD xs i nothing .b)) 0
+  pub mark-register : getD (doubledNets xs) (markNet xs i) nothing ≡ net 2 (markPin xs (getD xs i nothing .a)) (markStart (getD xs i nothing .b)) 0
   mark-register =
       let m : markNet xs i ≡ valueNet xs i + 1 = rw add-one (mark-second xs i (rw two-nets at (value-next xs i h))) in
       rw m (rw register-group at (group-net xs i 1 h (omega (arith, two-nets))))

@@ -1,7 +1,7 @@
 -- The group lengths summed net by net: each start is that of the definition, and fits a u16.
 use Prim.Native.Nat.{ℕ, _+_, _*_, _-_, _≤_, _<_}
 use mathlib.Core.Logic.{inl, inr}
-use mathlib.Core.Path.{_≡_, refl, _∙_}
+use mathlib.Core.Path.{_≡_, refl, ap, _∙_}
 use mathlib.Core.List.{List}
 use native.Mathlib.Numerals.{add-one}
 use native.Mathlib.Omega.{arith}
@@ -10,12 +10,13 @@ use lib.ListN.{length, getD, set, replicate}
 use lib.Seq.{getD-set-same, getD-set-other}
 use Rattle.image.specs.declared.image.Net.{Net}
 use Rattle.image.specs.Image.{sizesOf, kindAt, netAt, netsOf}
+use Rattle.image.specs.Pins.{pinNet, likePin}
 use Rattle.image.proofs.Nets.{net-in, length-nets}
 use Rattle.image.proofs.Encoding.{nothing}
 use Rattle.net_checking.proofs.Passes.{kind-most, Passes, is-const, is-input, is-reg, is-not, is-and, is-or, is-xor, is-mux, is-out}
 use Rattle.checking.proofs.Checked.{AllPass, nil, cons, Checked, net-passes}
 use Rattle.groups.specs.Groups.{groupLengths, groupLength, groupBy, groupOf}
-use Rattle.doubled.specs.Doubled.{doubledSize, valueNet, markNet, groupAt}
+use Rattle.doubled.specs.Doubled.{doubledSize, valueNet, markNet, valuePin, markPin, groupAt}
 use Rattle.doubled.specs.Starts.{Starts}
 use Rattle.doubled.proofs.Positions.{below-or, two-to-eight, two-or-more, value-next, value-up}
 
@@ -93,14 +94,19 @@ summed-next t xs i v h l e j k =
       | inr m ↦ rw m (getD-set-same t (i + 1) v 0 l ∙ e)
     ]
 
--- PINS. The two nets of net i, as the starts give them
+-- PINS. The value net and the mark net of net i, as the starts give them; and so what a pin becomes
 pub pair-is : (t : List ℕ) (xs : List Net) → Starts t xs → (i : ℕ) → i < 8192 → (getD t i 0 ≡ valueNet xs i) × (getD t (i + 1) 0 - 1 ≡ markNet xs i)
 unfolding markNet valueNet
 pair-is t xs h i l = (h i (omega arith), rw (h (i + 1) (omega arith), add-one i))
 
--- the group of x, net i of xs, from numbers that are its own value net and the two nets of each pin
+pub pins-are : (t : List ℕ) (xs : List Net) → Starts t xs → (p : ℕ) → pinNet p < 8192
+    → (likePin p (getD t (pinNet p) 0) ≡ valuePin xs p) × (getD t (pinNet p + 1) 0 - 1 ≡ markPin xs p)
+unfolding valuePin markPin
+pins-are t xs h p l = let e = pair-is t xs h (pinNet p) l in (ap (likePin p) (e .0), e .1)
+
+-- the group of x, net i of xs, from numbers that are its own value net and what each pin becomes
 pub group-pinned : (xs : List Net) (i : ℕ) (x : Net) {v va ta vb tb vc tc : ℕ} → v ≡ valueNet xs i
-    → va ≡ valueNet xs (x .a) → ta ≡ markNet xs (x .a) → vb ≡ valueNet xs (x .b) → tb ≡ markNet xs (x .b) → vc ≡ valueNet xs (x .c) → tc ≡ markNet xs (x .c)
+    → va ≡ valuePin xs (x .a) → ta ≡ markPin xs (x .a) → vb ≡ valuePin xs (x .b) → tb ≡ markPin xs (x .b) → vc ≡ valuePin xs (x .c) → tc ≡ markPin xs (x .c)
     → groupBy v x va ta vb tb vc tc ≡ groupAt xs i x
 unfolding groupOf
 group-pinned xs i x v va ta vb tb vc tc = λ j. groupBy (v j) x (va j) (ta j) (vb j) (tb j) (vc j) (tc j)

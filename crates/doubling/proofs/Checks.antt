@@ -20,7 +20,7 @@ use Rattle.checking.specs.Check.{checkRefusal}
 use Rattle.checking.proofs.Checked.{AllPass, nil, cons, Checked, check-none}
 use Rattle.checking.proofs.Encoded.{encode-bytes}
 use Rattle.groups.specs.Groups.{groupOf}
-use Rattle.doubled.specs.Doubled.{doubledSize, valueNet, markNet, groupAt, groupsFrom, doubledNets}
+use Rattle.doubled.specs.Doubled.{doubledSize, valueNet, valuePin, markPin, groupAt, groupsFrom, doubledNets}
 use Rattle.doubled.proofs.Positions.{two-or-more, doubled-length, doubled-passes}
 use Rattle.doubling.specs.Doubling.{pairedSizes, doubledImage, doubleRefusal, doubleOf}
 
@@ -52,7 +52,7 @@ unfolding groupsFrom count
 groups-count xs c nil = refl
 groups-count xs {k = k} {i = i} c (cons {x = y} {xs = ys} p ps) =
     omega
-    (arith, count-append k (groupAt xs i y) (groupsFrom xs (suc i) ys), group-count (valueNet xs i) (valueNet xs) (markNet xs) c p, groups-count xs c ps)
+    (arith, count-append k (groupAt xs i y) (groupsFrom xs (suc i) ys), group-count (valueNet xs i) (valuePin xs) (markPin xs) c p, groups-count xs c ps)
 
 doubled-count : {xs : List Net} {k n : ℕ} → Counted k → AllPass n 0 xs → count k (doubledNets xs) ≡ 2 * count k xs
 unfolding doubledNets

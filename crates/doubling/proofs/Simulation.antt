@@ -13,17 +13,19 @@ use Rattle.gates.specs.Rules.{gateByte}
 use Rattle.gates.proofs.Laws.{Code}
 use Rattle.image.specs.declared.image.Net.{Net}
 use Rattle.image.specs.Image.{net}
+use Rattle.image.specs.Pins.{pinNet}
 use Rattle.image.proofs.Pairs.{pairs-append, pairs-getD, pairs-drop}
 use Rattle.refusals.proofs.Refusals.{Codes}
 use Rattle.net_checking.proofs.Passes.{Passes, is-const, is-input, is-reg, is-not, is-and, is-or, is-xor, is-mux, is-out}
 use Rattle.checking.proofs.Checked.{AllPass, nil, cons}
-use Rattle.cycle.specs.Cycle.{Walk, pinByte, netByte, past, walk, bytesOf, outputsFrom, registers, clocked, Cycle, cycleOf}
+use Rattle.cycle.specs.Cycle.{Walk, netByte, past, walk, bytesOf, outputsFrom, registers, clocked, Cycle, cycleOf}
 use Rattle.cycle.proofs.Walks.{walk-append}
+use Rattle.cycle.proofs.Cycles.{pin-code}
 use Rattle.cycle.proofs.Selections.{Selection, outputs-selected, registers-selected, selection-append}
 use Rattle.groups.specs.Groups.{groupLength, groupLengths, markStart, groupOf, split}
-use Rattle.groups.proofs.Groups.{at, past-gate, walked-all, comes-length, Splits, byte-splits, const-splits, Bits, Group, not-group, and-group, or-group, xor-group, mux-group, out-group}
-use Rattle.doubled.specs.Doubled.{doubledSize, valueNet, markNet, groupAt, groupsFrom, doubledNets}
-use Rattle.doubled.proofs.Positions.{below-or, Laid, end, next, laid, group-length, value-below, mark-below, mark-second}
+use Rattle.groups.proofs.Groups.{at, read, past-gate, walked-all, value-reads, mark-reads, comes-length, Splits, byte-splits, const-splits, Bits, Group, not-group, and-group, or-group, xor-group, mux-group, out-group}
+use Rattle.doubled.specs.Doubled.{doubledSize, valueNet, markNet, valuePin, markPin, groupAt, groupsFrom, doubledNets}
+use Rattle.doubled.proofs.Positions.{below-or, Laid, end, next, laid, group-length, value-up, value-below, mark-below, value-pin-below, mark-pin-below, mark-second}
 
 -- TWO BYTES for each byte
 pub record Twice (two : List ℕ → List ℕ) : Type 0 where
@@ -142,25 +144,41 @@ module _ {xs : List Net} {n i : ℕ} {w d : Walk} (ps : AllPass n 0 xs) (l : i <
         state-codes = bs;
       }
 
+-- the first and the last nets of groups are few enough to have no number with the top bit
+module _ (xs : List Net) (few : doubledSize xs ≤ 8192) (j : ℕ) where
+  value-few : valueNet xs j < 32768
+  value-few = omega (arith, value-up xs j)
+
+  mark-few : markNet xs j < 32768
+  unfolding markNet valueNet
+  mark-few = omega (arith, value-up xs (suc j))
+
 -- past one net, and past its group
-module _ {xs : List Net} {n i : ℕ} {w d : Walk} (ps : AllPass n 0 xs) (l : i < length xs) (f : Follows xs i w d) where
+module _ {xs : List Net} {n i : ℕ} {w d : Walk} (few : doubledSize xs ≤ 8192) (ps : AllPass n 0 xs) (l : i < length xs) (f : Follows xs i w d) where
   abbrev v : ℕ
   v = valueNet xs i
 
-  bits : (j : ℕ) → j < i → Bits (d .bytes) v (valueNet xs j) (markNet xs j) (getD (w .bytes) j 0)
-  bits j h =
+  room : v + 8 ≤ 32768
+  room = omega (arith, value-up xs i)
+
+  code : (j : ℕ) → getD (w .bytes) j 0 ≤ 3
+  code j = pairs-getD j 0 (lit≤ tt) (f .codes)
+
+  bits : (p : ℕ) → pinNet p < i → Bits (d .bytes) v (valuePin xs p) (markPin xs p) (read (w .bytes) p)
+  unfolding valuePin markPin
+  bits p h =
       record {
-        value-in = omega (arith, value-below xs n ps j i h (omega arith));
-        mark-in = mark-below xs n ps j i h (omega arith);
-        value-is = f .value j h;
-        mark-is = f .mark j h;
+        value-in = value-pin-below xs n ps p i h (omega arith);
+        mark-in = mark-pin-below xs n ps p i h (omega arith);
+        value-is = value-reads (w .bytes) (d .bytes) p (valueNet xs (pinNet p)) (value-few xs few (pinNet p)) (code (pinNet p)) (f .value (pinNet p) h);
+        mark-is = mark-reads (w .bytes) (d .bytes) p (markNet xs (pinNet p)) (mark-few xs few (pinNet p)) (code (pinNet p)) (f .mark (pinNet p) h);
       }
 
-  fits : (j : ℕ) → getD (w .bytes) j 0 ≤ 3
-  fits j = pairs-getD j 0 (lit≤ tt) (f .codes)
+  fits : (p : ℕ) → read (w .bytes) p ≤ 3
+  fits p = let c = code (pinNet p) in let h = pin-code (w .bytes) p (omega arith) in omega arith
 
   abbrev Shown : (k a b c : ℕ) → Type 0
-  Shown = Group (w .bytes) (d .bytes) i v (valueNet xs) (markNet xs) bits fits
+  Shown = Group (w .bytes) (d .bytes) i v room (valuePin xs) (markPin xs) bits fits
 
   gate-step : (k a b c : ℕ) → 3 ≤ k → Shown k a b c → valueNet xs (suc i) ≡ v + groupLength k
       → Follows xs (suc i) (past gateByte (net k a b c) w) (walk gateByte (groupAt xs i (net k a b c)) d)
@@ -187,22 +205,22 @@ module _ {xs : List Net} {n i : ℕ} {w d : Walk} (ps : AllPass n 0 xs) (l : i <
       (extend ps l f (getD (w .state) 0 0) (getD (d .state) 0 0 ∷ getD (drop 1 (d .state)) 0 0 ∷ [])
       (w .row) (drop 1 (w .state)) (d .row) (drop 1 (drop 1 (d .state)))
       (rw (f .state) (first-splits (w .state) (f .state-codes))) m (f .row) (rw (f .state) (split-rest (w .state))) (f .row-codes) (pairs-drop 1 (f .state-codes)))
-  step (is-not h) m = gate-step 3 _ _ _ (lit≤ tt) (not-group _ _ _ _ _ _ bits fits h) m
-  step (is-and h k) m = gate-step 4 _ _ _ (lit≤ tt) (and-group _ _ _ _ _ _ bits fits h k) m
-  step (is-or h k) m = gate-step 5 _ _ _ (lit≤ tt) (or-group _ _ _ _ _ _ bits fits h k) m
-  step (is-xor h k) m = gate-step 6 _ _ _ (lit≤ tt) (xor-group _ _ _ _ _ _ bits fits h k) m
-  step (is-mux h k o) m = gate-step 7 _ _ _ (lit≤ tt) (mux-group _ _ _ _ _ _ bits fits h k o) m
-  step (is-out {b = b} h k) m = gate-step 8 _ _ _ (lit≤ tt) (out-group _ _ _ _ _ _ bits fits b h) m
+  step (is-not h) m = gate-step 3 _ _ _ (lit≤ tt) (not-group _ _ _ _ room _ _ bits fits h) m
+  step (is-and h k) m = gate-step 4 _ _ _ (lit≤ tt) (and-group _ _ _ _ room _ _ bits fits h k) m
+  step (is-or h k) m = gate-step 5 _ _ _ (lit≤ tt) (or-group _ _ _ _ room _ _ bits fits h k) m
+  step (is-xor h k) m = gate-step 6 _ _ _ (lit≤ tt) (xor-group _ _ _ _ room _ _ bits fits h k) m
+  step (is-mux h k o) m = gate-step 7 _ _ _ (lit≤ tt) (mux-group _ _ _ _ room _ _ bits fits h k o) m
+  step (is-out {b = b} h k) m = gate-step 8 _ _ _ (lit≤ tt) (out-group _ _ _ _ room _ _ bits fits b h) m
 
 follow :
-    {xs : List Net} {n : ℕ} → AllPass n 0 xs → n ≡ length xs
+    {xs : List Net} {n : ℕ} → doubledSize xs ≤ 8192 → AllPass n 0 xs → n ≡ length xs
     → {i : ℕ} {ys : List Net} {w d : Walk} → AllPass n i ys → Laid xs i ys → i + length ys ≡ n
     → Follows xs i w d → Follows xs n (walk gateByte ys w) (walk gateByte (groupsFrom xs i ys) d)
 unfolding walk groupsFrom
-follow {xs} ps e {w = w} {d = d} (nil {i}) (end l) h f = subst (λ m. Follows xs m w d) (let k : i ≡ _ = omega arith in k) f
-follow {xs} {n} ps e {w = w} {d = d} (cons {i = i} {x = y} {xs = ys} p qs) (next m ls) h f =
+follow {xs} few ps e {w = w} {d = d} (nil {i}) (end l) h f = subst (λ m. Follows xs m w d) (let k : i ≡ _ = omega arith in k) f
+follow {xs} {n} few ps e {w = w} {d = d} (cons {i = i} {x = y} {xs = ys} p qs) (next m ls) h f =
     rw (walk-append gateByte (groupAt xs i y) (groupsFrom xs (suc i) ys) d)
-    (follow ps e qs ls (omega arith) (step ps (omega arith) f p m))
+    (follow few ps e qs ls (omega arith) (step few ps (omega arith) f p m))
 
 begins : (xs : List Net) (row st : List ℕ) → Codes row → Codes st → Follows xs 0 (at [] row st) (at [] (split row) (split st))
 unfolding valueNet doubledSize
@@ -220,10 +238,10 @@ begins xs row st br bs =
     }
 
 -- from the start of a cycle to its end
-cycle-follows : {xs : List Net} {n : ℕ} (row st : List ℕ) → AllPass n 0 xs → n ≡ length xs → Codes row → Codes st
+cycle-follows : {xs : List Net} {n : ℕ} (row st : List ℕ) → doubledSize xs ≤ 8192 → AllPass n 0 xs → n ≡ length xs → Codes row → Codes st
     → Follows xs n (walk gateByte xs (at [] row st)) (walk gateByte (doubledNets xs) (at [] (split row) (split st)))
 unfolding doubledNets
-cycle-follows {xs} row st ps e br bs = follow ps e ps (laid xs) (omega arith) (begins xs row st br bs)
+cycle-follows {xs} row st few ps e br bs = follow few ps e ps (laid xs) (omega arith) (begins xs row st br bs)
 
 -- OUTPUTS AND REGISTERS. What is read off group by group, two bytes for each byte of the source
 module _ {k : ℕ} {l l′ : ℕ → List Net → List ℕ} {b b′ : ℕ → Net → ℕ} (selection : Selection k l b) (selection′ : Selection k l′ b′)
@@ -245,7 +263,7 @@ module _ {k : ℕ} {l l′ : ℕ → List Net → List ℕ} {b b′ : ℕ → Ne
 
 -- the two registers of a register
 module _ (f f′ : Net → ℕ) {two : List ℕ → List ℕ} (twice : Twice two) {n : ℕ} (xs : List Net)
-    (pair : (a b : ℕ) → a < n → f′ (net 2 (valueNet xs a) b 0) ∷ f′ (net 2 (markNet xs a) (markStart b) 0) ∷ [] ≡ two (f (net 2 a b 0) ∷ [])) where
+    (pair : (a b : ℕ) → pinNet a < n → f′ (net 2 (valuePin xs a) b 0) ∷ f′ (net 2 (markPin xs a) (markStart b) 0) ∷ [] ≡ two (f (net 2 a b 0) ∷ [])) where
   group-registers : {i : ℕ} {y : Net} → Passes n i y → registers f′ (groupAt xs i y) ≡ two (registers f (y ∷ []))
   unfolding groupOf registers
   group-registers (is-const h) = sym (twice .none)
@@ -265,9 +283,15 @@ module _ (f f′ : Net → ℕ) {two : List ℕ → List ℕ} (twice : Twice two
 module _ (xs : List Net) {n : ℕ} (bs ds : List ℕ)
     (value : (j : ℕ) → j < n → getD ds (valueNet xs j) 0 ≡ getD bs j 0 % 2)
     (mark : (j : ℕ) → j < n → getD ds (markNet xs j) 0 ≡ getD bs j 0 / 2) where
-  clocked-split : AllPass n 0 xs → n ≡ length xs → clocked (doubledNets xs) ds ≡ split (clocked xs bs)
-  unfolding clocked pinByte split
-  clocked-split ps e = registers-twice _ _ split-twice xs (λ a b h. rw (value a h, mark a h)) ps e
+  clocked-split : doubledSize xs ≤ 8192 → Codes bs → AllPass n 0 xs → n ≡ length xs → clocked gateByte (doubledNets xs) ds ≡ split (clocked gateByte xs bs)
+  unfolding clocked split valuePin markPin
+  clocked-split few codes ps e =
+      registers-twice _ _ split-twice xs
+      (λ a b h.
+      let j = pinNet a in
+      let c = pairs-getD j 0 (lit≤ tt) codes in
+      rw (value-reads bs ds a (valueNet xs j) (value-few xs few j) c (value j h), mark-reads bs ds a (markNet xs j) (mark-few xs few j) c (mark j h)))
+      ps e
 
   group-outputs : {i : ℕ} {y : Net} → i < n → Passes n i y → valueNet xs (suc i) ≡ valueNet xs i + groupLength (y .kind)
       → outputsFrom (valueNet xs i) (groupAt xs i y) ds ≡ split (outputsFrom i (y ∷ []) bs)
@@ -293,13 +317,13 @@ pub record CycleSplits (xs : List Net) (row st : List ℕ) : Type 0 where
   pub outputs : doubledCycle xs row st .outputs ≡ split (cycleOf xs row st .outputs)
   pub state : doubledCycle xs row st .state ≡ split (cycleOf xs row st .state)
 
-pub cycle-splits : {xs : List Net} {n : ℕ} (row st : List ℕ) → AllPass n 0 xs → n ≡ length xs → Codes row → Codes st → CycleSplits xs row st
+pub cycle-splits : {xs : List Net} {n : ℕ} (row st : List ℕ) → doubledSize xs ≤ 8192 → AllPass n 0 xs → n ≡ length xs → Codes row → Codes st → CycleSplits xs row st
 unfolding cycleOf bytesOf
-cycle-splits {xs} {n} row st ps e br bs =
-    let f = cycle-follows row st ps e br bs in
+cycle-splits {xs} {n} row st few ps e br bs =
+    let f = cycle-follows row st few ps e br bs in
     let b = walk gateByte xs (at [] row st) .bytes in
     let d = walk gateByte (doubledNets xs) (at [] (split row) (split st)) .bytes in
     record {
       outputs = outputs-split xs b d (f .value) (f .mark) ps e;
-      state = clocked-split xs b d (f .value) (f .mark) ps e;
+      state = clocked-split xs b d (f .value) (f .mark) few (f .codes) ps e;
     }

@@ -14,7 +14,7 @@ use Rattle.cycle.specs.Cycle.{registers}
 use Rattle.cycle.specs.Calls.{start, starts}
 use Rattle.groups.specs.Groups.{split}
 use Rattle.groups.proofs.Groups.{reg-starts}
-use Rattle.doubled.specs.Doubled.{valueNet, markNet, doubledNets}
+use Rattle.doubled.specs.Doubled.{valuePin, markPin, doubledNets}
 use Rattle.doubling.proofs.Simulation.{Twice, registers-twice}
 
 -- POWER-UP. Each byte, and its mark behind it; so a value register wakes marked where its source does
@@ -30,7 +30,7 @@ pub starts-woken : {xs : List Net} {n : ℕ} → AllPass n 0 xs → n ≡ length
 unfolding starts registers woken
 starts-woken {xs} ps e =
     registers-twice (λ x. start (x .b)) (λ x. start (x .b)) woken-twice xs
-    (λ a b h. reg-starts (valueNet xs a) (markNet xs a) b) ps e
+    (λ a b h. reg-starts (valuePin xs a) (markPin xs a) b) ps e
 
 -- VALUES of it
 plain-value : (x : ℕ) → SameValue (x % 2) x

@@ -1,5 +1,6 @@
 // Writing the doubled netlist: its sizes, and then group after group in one pass over the nets.
 use crate::pins::pair_of;
+use crate::pins::wide;
 use all_groups::put_group;
 use image::Sizes;
 use image::net_of;
@@ -20,17 +21,17 @@ ghost use Rattle.doubling.specs.Doubling.{doubledImage};
 // The group of net i.
 fn put_group_at(d: &mut [u8], size: usize, image: &[u8], starts: &[u16; 8193], i: usize)
     requires { ⌜ checkRefusal (now image) ≡ none ⌝ }
-    requires { ⌜ (i < sizesOf (now image) .nets) × Starts (now starts) (netsOf (now image)) ⌝ }
+    requires { ⌜ (i < sizesOf (now image) .nets) × Starts (now starts) (netsOf (now image)) × (doubledSize (netsOf (now image)) ≤ 8192) ⌝ }
     requires { ⌜ Room (now d) size (valueNet (netsOf (now image)) i) (groupLength (kindAt (now image) i)) ⌝ }
     ensures { λ r. ⌜ now (d .exit) ≡ putNets (now (d .entry)) size (valueNet (netsOf (now (image .entry))) i)
         (groupAt (netsOf (now (image .entry))) i (netAt (now (image .entry)) (sizesOf (now (image .entry)) .nets) i)) ⌝ }
 {
-    let own = pair_of(starts, i);
+    let v = wide(starts[i]);
     let x = net_of(image, i);
     put_group(
         d,
         size,
-        own.value,
+        v,
         x,
         pair_of(starts, x.a),
         pair_of(starts, x.b),

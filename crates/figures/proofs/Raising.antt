@@ -14,7 +14,7 @@ use Rattle.image.specs.Image.{count}
 use Rattle.image.proofs.Encoding.{nothing}
 use Rattle.checking.specs.Counts.{kindCounts, raised}
 use Rattle.checking.proofs.Counting.{counts-length, count-few, raised-place, counts-raised}
-use Rattle.doubled.specs.Doubled.{doubledSize, valueNet, markNet, groupAt, groupsFrom, doubledNets}
+use Rattle.doubled.specs.Doubled.{doubledSize, valueNet, valuePin, markPin, groupAt, groupsFrom, doubledNets}
 use Rattle.doubled.proofs.Positions.{groups-length, groups-append, value-up}
 use Rattle.figures.specs.Tables.{raisedBy, NineCounts}
 use Rattle.figures.proofs.Rows.{kindsOf, row, kinds-small, group-row}
@@ -69,7 +69,7 @@ pub counts-next : (xs : List Net) (i : ℕ) → i < length xs → getD xs i noth
 unfolding countsTo
 counts-next xs i h l =
     let x = getD xs i nothing in
-    let r = group-row (valueNet xs i) x (valueNet xs) (markNet xs) l in
+    let r = group-row (valueNet xs i) x (valuePin xs) (markPin xs) l in
     rw (r .kinds, groups-next xs i h) (counts-more (groupsFrom xs 0 (take i xs)) (groupAt xs i x) (r .small))
 
 -- a count is at most as high as there are nets

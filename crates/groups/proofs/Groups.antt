@@ -2,7 +2,7 @@
 use Prim.Native.Nat.{ℕ, zero, suc, _+_, _-_, _/_, _%_, _≤_, _<_}
 use mathlib.Core.Path.{_≡_, refl, sym, _∙_}
 use mathlib.Core.List.{List, [], _∷_, _++_, append-assoc, append-nil}
-use mathlib.Core.Bool.{Bool, true, false, _&&_}
+use mathlib.Core.Bool.{Bool, true, false, _&&_, cond}
 use native.Mathlib.Omega.{arith}
 use native.Mathlib.Nat.{add-zero}
 use borrow.Author.Tests.{ne-eqb, eqb-true, leb-true}
@@ -13,27 +13,35 @@ use Rattle.gates.specs.Rules.{bit, value, mark, byte, andMark, orMark, xorMark,
 use Rattle.gates.proofs.EachCode.{both, each, each-pair, each-triple}
 use Rattle.image.specs.declared.image.Net.{Net}
 use Rattle.image.specs.Image.{net}
+use Rattle.image.specs.Pins.{inverted, pinNet, likePin}
+use Rattle.image.proofs.PinNets.{plain-net, plain-pin, like-net, like-pin}
 use Rattle.cycle.specs.Cycle.{Walk, pinByte, netByte, past, walk, registers}
 use Rattle.cycle.specs.Calls.{start, starts}
+use Rattle.cycle.proofs.Ruling.{plain-reads, pin-same}
 use Rattle.groups.specs.Groups.{markStart, regGroup, groupOf}
 
 abbrev pub at : (bytes row state : List ℕ) → Walk
 at b r s = record { bytes = b; row = r; state = s }
 
+-- what a pin reads among the bytes bs
+abbrev pub read : (bs : List ℕ) (p : ℕ) → ℕ
+read bs p = pinByte gateByte bs p
+
 pub past-gate : (k a b c : ℕ) (w : Walk) → 3 ≤ k
-    → past gateByte (net k a b c) w ≡ at (w .bytes ++ (gateByte k (getD (w .bytes) a 0) (getD (w .bytes) b 0) (getD (w .bytes) c 0) ∷ [])) (w .row) (w .state)
-unfolding past netByte pinByte
+    → past gateByte (net k a b c) w ≡ at (w .bytes ++ (gateByte k (read (w .bytes) a) (read (w .bytes) b) (read (w .bytes) c) ∷ [])) (w .row) (w .state)
+unfolding past netByte
 past-gate k a b c w h = rw (ne-eqb k 0 (λ e. omega arith), ne-eqb k 1 (λ e. omega arith), ne-eqb k 2 (λ e. omega arith))
 
--- what a pin of a group reads, past the bytes bs with es behind them: a byte of bs, or of es, or any byte, for a pin that the gate does not use
+-- what a pin of a group reads, past the bytes bs with es behind them: what it reads among bs, or a byte of es, or anything, for a pin that the gate does not use.
+-- The nets of a doubled netlist are so few that none has a number with the top bit
 pub data Pin (bs : List ℕ) (v : ℕ) (es : List ℕ) : ℕ → ℕ → Type 0 where
-  old : {p x : ℕ} → p < v → getD bs p 0 ≡ x → Pin bs v es p x
-  new : (k : ℕ) → Pin bs v es (v + k) (getD es k 0)
-  unread : {p : ℕ} → Pin bs v es p (getD (bs ++ es) p 0)
+  old : {p x : ℕ} → pinNet p < v → read bs p ≡ x → Pin bs v es p x
+  new : (k : ℕ) → v + k < 32768 → Pin bs v es (v + k) (getD es k 0)
+  unread : {p : ℕ} → Pin bs v es p (read (bs ++ es) p)
 
-reads : {bs : List ℕ} {v : ℕ} {es : List ℕ} {p x : ℕ} → length bs ≡ v → Pin bs v es p x → getD (bs ++ es) p 0 ≡ x
-reads {bs} {v} {es} {p} l (old h e) = List·getD-append bs es 0 p (omega arith) ∙ e
-reads {bs} {v} {es} l (new k) = rw (← l) (getD-append-add bs es k 0)
+reads : {bs : List ℕ} {v : ℕ} {es : List ℕ} {p x : ℕ} → length bs ≡ v → Pin bs v es p x → read (bs ++ es) p ≡ x
+reads {bs} {v} {es} {p} l (old h e) = pin-same gateByte (bs ++ es) bs p (List·getD-append bs es 0 (pinNet p) (omega arith)) ∙ e
+reads {bs} {v} {es} l (new k h) = plain-reads gateByte (bs ++ es) h ∙ rw (← l) (getD-append-add bs es k 0)
 reads l unread = refl
 
 -- gates gs come to the bytes fs, past the bytes bs with es behind them
@@ -138,99 +146,129 @@ const-splits zero h = splits _ _ refl
 const-splits (suc zero) h = splits _ _ refl
 const-splits (suc (suc a)) h = absurd (omega arith)
 
--- THE GROUPS. A net's byte x, as the bytes of its value net p and its mark net q among bs, all before net v
+-- PINS. What a pin p reads among the bytes bs, and what reads its value and its mark where net m has, among ds, the value or the mark of the net that it names: a pin to m with the
+-- top bit as p has it reads the value, and one without it the mark
+not-value : (x : ℕ) → x ≤ 3 → gateByte 3 (x % 2) 0 0 ≡ gateByte 3 x 0 0 % 2
+unfolding gateByte value mark byte notByte
+not-value x h = eqb-true _ _ (each (λ x. eqb (gateByte 3 (x % 2) 0 0) (gateByte 3 x 0 0 % 2)) refl x h)
+
+not-mark : (x : ℕ) → x ≤ 3 → gateByte 3 x 0 0 / 2 ≡ x / 2
+unfolding gateByte value mark byte notByte
+not-mark x h = eqb-true _ _ (each (λ x. eqb (gateByte 3 x 0 0 / 2) (x / 2)) refl x h)
+
+module _ (bs ds : List ℕ) (p m : ℕ) (few : m < 32768) (code : getD bs (pinNet p) 0 ≤ 3) where
+  pub value-reads : getD ds m 0 ≡ getD bs (pinNet p) 0 % 2 → read ds (likePin p m) ≡ read bs p % 2
+  unfolding pinByte
+  value-reads e = rw (like-pin p m few, like-net p m few, e) (by-flag (inverted p))
+    where
+      by-flag : (b : Bool) → let x = getD bs (pinNet p) 0 in cond b (gateByte 3 (x % 2) 0 0) (x % 2) ≡ cond b (gateByte 3 x 0 0) x % 2
+      by-flag true = not-value _ code
+      by-flag false = refl
+
+  pub mark-reads : getD ds m 0 ≡ getD bs (pinNet p) 0 / 2 → read ds m ≡ read bs p / 2
+  unfolding pinByte
+  mark-reads e = rw (plain-pin few, plain-net few, e) (by-flag (inverted p))
+    where
+      by-flag : (b : Bool) → let x = getD bs (pinNet p) 0 in x / 2 ≡ cond b (gateByte 3 x 0 0) x / 2
+      by-flag true = sym (not-mark _ code)
+      by-flag false = refl
+
+-- THE GROUPS. The byte x that a pin reads, as what its value pin p and its mark pin q read among bs; both name nets before net v
 pub record Bits (bs : List ℕ) (v p q x : ℕ) : Type 0 where
-  pub value-in : p < v
-  pub mark-in : q < v
-  pub value-is : getD bs p 0 ≡ x % 2
-  pub mark-is : getD bs q 0 ≡ x / 2
+  pub value-in : pinNet p < v
+  pub mark-in : pinNet q < v
+  pub value-is : read bs p ≡ x % 2
+  pub mark-is : read bs q ≡ x / 2
 
 -- the bytes ws of the nets before net i, and the bytes bs of their groups
-module _ (ws bs : List ℕ) (i v : ℕ) (val mrk : ℕ → ℕ)
-    (bits : (j : ℕ) → j < i → Bits bs v (val j) (mrk j) (getD ws j 0)) (codes : (j : ℕ) → getD ws j 0 ≤ 3) where
+module _ (ws bs : List ℕ) (i v : ℕ) (few : v + 8 ≤ 32768) (val mrk : ℕ → ℕ)
+    (bits : (p : ℕ) → pinNet p < i → Bits bs v (val p) (mrk p) (read ws p)) (codes : (p : ℕ) → read ws p ≤ 3) where
   -- the group of a gate: what its nets come to, and that this splits the gate's byte
   pub record Group (k a b c : ℕ) : Type 0 where
     pub bytes : List ℕ
     pub comes : Comes bs v [] (groupOf v (net k a b c) val mrk) bytes
-    pub splits : Splits (gateByte k (getD ws a 0) (getD ws b 0) (getD ws c 0)) bytes
+    pub splits : Splits (gateByte k (read ws a) (read ws b) (read ws c)) bytes
 
-  valueOf : {es : List ℕ} {j : ℕ} → j < i → Pin bs v es (val j) (getD ws j 0 % 2)
+  valueOf : {es : List ℕ} {p : ℕ} → pinNet p < i → Pin bs v es (val p) (read ws p % 2)
   valueOf h = let t = bits _ h in old (t .value-in) (t .value-is)
 
-  markOf : {es : List ℕ} {j : ℕ} → j < i → Pin bs v es (mrk j) (getD ws j 0 / 2)
+  markOf : {es : List ℕ} {p : ℕ} → pinNet p < i → Pin bs v es (mrk p) (read ws p / 2)
   markOf h = let t = bits _ h in old (t .mark-in) (t .mark-is)
 
-  pub not-group : {a : ℕ} → a < i → Group 3 a 0 0
+  inner : {es : List ℕ} (k : ℕ) → k < 8 → Pin bs v es (v + k) (getD es k 0)
+  inner k h = new k (omega arith)
+
+  pub not-group : {a : ℕ} → pinNet a < i → Group 3 a 0 0
   unfolding groupOf gateByte notBytes
   not-group {a} h =
       record {
-        bytes = notBytes (getD ws a 0);
+        bytes = notBytes (read ws a);
         comes = gate (lit≤ tt) (valueOf h) unread unread (gate (lit≤ tt) (markOf h) (markOf h) unread done);
         splits = not-splits _ (codes a);
       }
 
-  pub and-group : {a b : ℕ} → a < i → b < i → Group 4 a b 0
+  pub and-group : {a b : ℕ} → pinNet a < i → pinNet b < i → Group 4 a b 0
   unfolding groupOf gateByte andBytes
   and-group {a} {b} h k =
       record {
-        bytes = andBytes (getD ws a 0) (getD ws b 0);
+        bytes = andBytes (read ws a) (read ws b);
         comes =
             gate (lit≤ tt) (valueOf h) (valueOf k) unread
             (gate (lit≤ tt) (markOf h) (valueOf k) unread
             (gate (lit≤ tt) (markOf k) (valueOf h) unread
             (gate (lit≤ tt) (markOf h) (markOf k) unread
-            (gate (lit≤ tt) (new 1) (new 2) unread
-            (gate (lit≤ tt) (new 4) (new 3) unread done)))));
+            (gate (lit≤ tt) (inner 1 (omega arith)) (inner 2 (omega arith)) unread
+            (gate (lit≤ tt) (inner 4 (omega arith)) (inner 3 (omega arith)) unread done)))));
         splits = and-splits _ _ (codes a) (codes b);
       }
 
-  pub or-group : {a b : ℕ} → a < i → b < i → Group 5 a b 0
+  pub or-group : {a b : ℕ} → pinNet a < i → pinNet b < i → Group 5 a b 0
   unfolding groupOf gateByte orBytes
   or-group {a} {b} h k =
       record {
-        bytes = orBytes (getD ws a 0) (getD ws b 0);
+        bytes = orBytes (read ws a) (read ws b);
         comes =
             gate (lit≤ tt) (valueOf h) (valueOf k) unread
             (gate (lit≤ tt) (valueOf h) unread unread
             (gate (lit≤ tt) (valueOf k) unread unread
-            (gate (lit≤ tt) (markOf h) (new 2) unread
-            (gate (lit≤ tt) (markOf k) (new 1) unread
+            (gate (lit≤ tt) (markOf h) (inner 2 (omega arith)) unread
+            (gate (lit≤ tt) (markOf k) (inner 1 (omega arith)) unread
             (gate (lit≤ tt) (markOf h) (markOf k) unread
-            (gate (lit≤ tt) (new 3) (new 4) unread
-            (gate (lit≤ tt) (new 6) (new 5) unread done)))))));
+            (gate (lit≤ tt) (inner 3 (omega arith)) (inner 4 (omega arith)) unread
+            (gate (lit≤ tt) (inner 6 (omega arith)) (inner 5 (omega arith)) unread done)))))));
         splits = or-splits _ _ (codes a) (codes b);
       }
 
-  pub xor-group : {a b : ℕ} → a < i → b < i → Group 6 a b 0
+  pub xor-group : {a b : ℕ} → pinNet a < i → pinNet b < i → Group 6 a b 0
   unfolding groupOf gateByte xorBytes
   xor-group {a} {b} h k =
       record {
-        bytes = xorBytes (getD ws a 0) (getD ws b 0);
+        bytes = xorBytes (read ws a) (read ws b);
         comes = gate (lit≤ tt) (valueOf h) (valueOf k) unread (gate (lit≤ tt) (markOf h) (markOf k) unread done);
         splits = xor-splits _ _ (codes a) (codes b);
       }
 
-  pub mux-group : {a b c : ℕ} → a < i → b < i → c < i → Group 7 a b c
+  pub mux-group : {a b c : ℕ} → pinNet a < i → pinNet b < i → pinNet c < i → Group 7 a b c
   unfolding groupOf gateByte muxBytes
   mux-group {a} {b} {c} h k l =
       record {
-        bytes = muxBytes (getD ws a 0) (getD ws b 0) (getD ws c 0);
+        bytes = muxBytes (read ws a) (read ws b) (read ws c);
         comes =
             gate (lit≤ tt) (valueOf h) (valueOf k) (valueOf l)
             (gate (lit≤ tt) (valueOf h) (valueOf k) unread
             (gate (lit≤ tt) (markOf h) (markOf k) unread
-            (gate (lit≤ tt) (new 1) (new 2) unread
-            (gate (lit≤ tt) (markOf l) (new 3) unread
+            (gate (lit≤ tt) (inner 1 (omega arith)) (inner 2 (omega arith)) unread
+            (gate (lit≤ tt) (markOf l) (inner 3 (omega arith)) unread
             (gate (lit≤ tt) (markOf h) (markOf k) (valueOf l)
-            (gate (lit≤ tt) (new 4) (new 5) unread done))))));
+            (gate (lit≤ tt) (inner 4 (omega arith)) (inner 5 (omega arith)) unread done))))));
         splits = mux-splits _ _ _ (codes a) (codes b) (codes c);
       }
 
-  pub out-group : {a : ℕ} (b : ℕ) → a < i → Group 8 a b 0
+  pub out-group : {a : ℕ} (b : ℕ) → pinNet a < i → Group 8 a b 0
   unfolding groupOf gateByte
   out-group {a} b h =
       record {
-        bytes = getD ws a 0 % 2 ∷ getD ws a 0 / 2 ∷ [];
+        bytes = read ws a % 2 ∷ read ws a / 2 ∷ [];
         comes = gate (lit≤ tt) (valueOf h) unread unread (gate (lit≤ tt) (markOf h) unread unread done);
         splits = byte-splits _ (codes a);
       }

@@ -16,8 +16,8 @@ groupLengths = 2 ∷ 2 ∷ 2 ∷ 2 ∷ 6 ∷ 8 ∷ 2 ∷ 7 ∷ 2 ∷ []
 unfoldable pub groupLength : ℕ → ℕ
 groupLength k = getD groupLengths k 0
 
--- A group, in order, from the value nets va, vb, vc and the mark nets ta, tb, tc of its pins. The inner nets of a group whose first net is v
--- have the names that document 01 gives them.
+-- A group, in order, from the value pins va, vb, vc and the mark pins ta, tb, tc of its pins. The inner nets of a group whose first net is v
+-- have the names that document 01 gives them, and pins that name them have no top bit.
 
 -- CONST a; CONST 0
 abbrev pub constGroup : ℕ → List Net
@@ -94,7 +94,7 @@ groupBy v x va ta vb tb vc tc =
     ∷ [])
     (x .kind) []
 
--- the group of x, where val and mrk give the value and mark nets of its pins
+-- the group of x, where val and mrk give the value pin and the mark pin of each of its pins
 unfoldable pub groupOf : (v : ℕ) → Net → (val mrk : ℕ → ℕ) → List Net
 groupOf v x val mrk = groupBy v x (val (x .a)) (mrk (x .a)) (val (x .b)) (mrk (x .b)) (val (x .c)) (mrk (x .c))
 

@@ -62,11 +62,11 @@ like-most p j = by-bit (inverted p)
     by-bit true = omega arith
     by-bit false = omega arith
 
-pub like-digit : (p j : ℕ) → p < 65536 → likePin p j ≡ j + p / 32768 * 32768
-like-digit p j =
-    by-pin (λ p. p < 65536 → likePin p j ≡ j + p / 32768 * 32768)
-    (λ p h l. unfold likePin in rw (plain-pin h) (omega arith))
-    (λ k l. unfold likePin in rw (top-pin k) (omega arith))
+pub like-rest : (p j : ℕ) → likePin p j ≡ p - pinNet p + j
+like-rest p j =
+    by-pin (λ p. likePin p j ≡ p - pinNet p + j)
+    (λ p h. unfold likePin in rw (plain-pin h, plain-net h) (omega arith))
+    (λ k. unfold likePin in rw (top-pin k, top-net k) (omega arith))
     p
 
 pub like-net : (p j : ℕ) → j < 32768 → pinNet (likePin p j) ≡ j

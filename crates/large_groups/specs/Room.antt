@@ -5,7 +5,7 @@ use mathlib.Core.List.{List}
 use lib.ListN.{length}
 use Rattle.large_groups.specs.declared.pair.Pair.{Pair}
 
--- the two nets of a pin fit a u16
+-- the two pins that a pin becomes fit a u16
 pub record PairFits (p : Pair) : Type 0 where
   pub value : p .value < 65536
   pub mark : p .mark < 65536

@@ -1,5 +1,5 @@
-// The groups of AND, OR and MUX: their nets are written in document 01's order, as the nets from v on of an image of `size` nets. The value net and
-// the mark net of pin a are a.value and a.mark, in comments va and ta; and so for b and c.
+// The groups of AND, OR and MUX: their nets are written in document 01's order, as the nets from v on of an image of `size` nets. The value pin and
+// the mark pin of pin a are a.value and a.mark, in comments va and ta; and so for b and c.
 use crate::pair::Pair;
 use gates::AND;
 use gates::MUX;

@@ -1,6 +1,6 @@
-// The two nets that a net, or a pin that names it, becomes.
+// The two pins that a pin becomes.
 
-// The value net and the mark net of a net: the first and the last of its group.
+// The value pin and the mark pin of a pin: they name the first and the last net of the group of its net.
 pub struct Pair {
     pub value: usize,
     pub mark: usize,

@@ -42,7 +42,7 @@ put-group-at-requires c κs =
     let size = begin .pre .1 .1 in (
       begin .pre .0,
       (
-        (rw (← n) h, begin .pre .1 .0 .1),
+        (rw (← n) h, begin .pre .1 .0 .1, rw (← size .0) (size .1)),
         record { long = at .loop .inv .1; within = omega (arith, group-ends (checked begin) n i h, size .0); few = size .1 },
       ),
     )
