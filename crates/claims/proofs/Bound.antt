@@ -7,6 +7,8 @@ use lib.Dec.{eqb, lit≤, lit<}
 use lib.ListN.{length, replicate, length-replicate}
 use Rattle.gates.specs.Kinds.{CONST, INPUT, REG, OR, OUT}
 use Rattle.image.specs.Image.{sizesOf, net, netsOf, count}
+use Rattle.image.specs.Pins.{pinNet}
+use Rattle.image.proofs.PinNets.{zero-net}
 use Rattle.image.proofs.Nets.{length-nets}
 use Rattle.image.proofs.Pairs.{pairs-getD}
 use Rattle.image.proofs.Encoding.{encode-length, sizes-back, nets-back, Bytes}
@@ -28,7 +30,7 @@ size-bound s h =
 -- THE ORS: they pass behind net 0, none is of another kind, and each has a group of eight
 ors-pass : (n i k : ℕ) → 0 < i → AllPass n i (replicate k (net OR 0 0 0))
 ors-pass n i zero h = nil
-ors-pass n i (suc k) h = cons (is-or h h) (ors-pass n (suc i) k (omega arith))
+ors-pass n i (suc k) h = let named : pinNet 0 < i = rw zero-net h in cons (is-or named named) (ors-pass n (suc i) k (omega arith))
 
 ors-count : (k j : ℕ) → eqb OR j ≡ false → count j (replicate k (net OR 0 0 0)) ≡ 0
 unfolding count

@@ -2,6 +2,7 @@
 use mathlib.Core.Path.{refl}
 use Rattle.gates.specs.Rules.{value, mark, byte, andMark, orMark, xorMark, muxMark, notByte, andByte, orByte, xorByte, muxByte, gateByte}
 use Rattle.image.specs.Image.{sizesOf, netAt, netsFrom, netsOf, count}
+use Rattle.image.specs.Pins.{pinNet}
 use Rattle.image.specs.Examples.{counter, crossed}
 use Rattle.refusals.specs.Refusals.{badByte, badLength}
 use Rattle.net_checking.specs.NetCheck.{netRefusal}
@@ -16,7 +17,7 @@ unfolding value mark byte andMark orMark xorMark muxMark notByte andByte orByte 
 gating = tt
 
 checking : Unit {0}
-unfolding sizesOf netAt netsFrom netsOf count netRefusal netsRefusal checkRefusal badByte badLength powerUpRefusal runRefusal
+unfolding sizesOf netAt netsFrom netsOf pinNet count netRefusal netsRefusal checkRefusal badByte badLength powerUpRefusal runRefusal
 checking = tt
 
 running : Unit {0}

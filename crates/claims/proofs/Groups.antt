@@ -1,12 +1,13 @@
--- The groups of one net of each kind, by computation.
+-- The groups of one net of each kind, by computation; also with inverted pins.
 use mathlib.Core.Path.{refl}
 use borrow.Author.Tests.{ne-eqb}
+use Rattle.image.specs.Pins.{pinNet, likePin}
 use Rattle.groups.specs.Groups.{groupLengths, groupLength, markStart, groupOf}
-use Rattle.doubled.specs.Doubled.{doubledSize, valueNet, markNet, groupsFrom, doubledNets}
-use Rattle.claims.specs.Groups.{oneOfEach, theirGroups, Groups}
+use Rattle.doubled.specs.Doubled.{doubledSize, valueNet, markNet, valuePin, markPin, groupsFrom, doubledNets}
+use Rattle.claims.specs.Groups.{oneOfEach, theirGroups, invertedOfEach, invertedGroups, Groups}
 
 pub groups : Groups
-unfolding groupLengths groupLength markStart doubledSize valueNet markNet groupOf groupsFrom doubledNets oneOfEach theirGroups
+unfolding groupLengths groupLength markStart pinNet likePin doubledSize valueNet markNet valuePin markPin groupOf groupsFrom doubledNets oneOfEach theirGroups invertedOfEach invertedGroups
 groups =
     record {
       each = λ xs i x.
@@ -24,4 +25,5 @@ groups =
           };
       nets = refl;
       size = refl;
+      inverted = refl;
     }

@@ -7,6 +7,7 @@ pub mod InTurn
 pub mod Unchanged
 pub mod Taken
 pub mod Refused
+pub mod PinsMean
 pub mod NetBytes
 pub mod PowerUp
 pub mod Verdicts

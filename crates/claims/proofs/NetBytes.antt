@@ -9,6 +9,7 @@ use lib.Seq.{getD-drop}
 use Rattle.gates.specs.Rules.{gateByte}
 use Rattle.image.specs.declared.image.Net.{Net}
 use Rattle.image.specs.Image.{sizesOf, net, netsOf, count}
+use Rattle.image.specs.Pins.{pinNet}
 use Rattle.image.proofs.Nets.{net-in, length-nets}
 use Rattle.net_checking.proofs.Passes.{Passes, is-const, is-input, is-reg, is-not, is-and, is-or, is-xor, is-mux, is-out}
 use Rattle.checking.proofs.Checked.{Checked, check-none, net-passes}
@@ -17,7 +18,7 @@ use Rattle.cycle.specs.Calls.{stateLength}
 use Rattle.cycle.proofs.Selections.{Selection, outputs-selected, registers-selected, selection-length, place-below, selection-place}
 use Rattle.cycle.proofs.Walks.{WorkedOut, bytes-length, worked-out}
 use Rattle.cycle.proofs.Ruling as ruling
-use Rattle.cycle.proofs.Ruling.{sight, out-passes-on}
+use Rattle.cycle.proofs.Ruling.{sight, pin-same, out-passes-on}
 use Rattle.claims.specs.NetBytes.{netOf, placeOf, Counted, HasByte, const, input, reg, not, and, or, xor, mux, out, NetBytesAll, RuledBytesAll}
 
 -- the first of what is left of a list
@@ -34,24 +35,27 @@ module _ {s : List ℕ} (i : ℕ) (h : i < sizesOf s .nets) where
 
   -- net i, by its kind
   module _ (c : Checked s) {row st bs : List ℕ} (inputs : length row ≡ sizesOf s .inputs) (registers : length st ≡ stateLength (sizesOf s)) where
+    reads : {x : Net} (w : WorkedOut gateByte (netsOf s) row st bs i x) (p : ℕ) → pinNet p < i → pinByte gateByte (w .before .bytes) p ≡ pinByte gateByte bs p
+    reads w p l = pin-same gateByte (w .before .bytes) bs p (w .pins (pinNet p) l)
+
     by-kind : {x : Net} → netOf s i .kind ≡ x .kind → Passes (sizesOf s .nets) i x → (w : WorkedOut gateByte (netsOf s) row st bs i x)
         → HasByte s row st bs i x (netByte gateByte x (w .before))
-    unfolding netByte pinByte gateByte
+    unfolding netByte gateByte
     by-kind e (is-const l) w = const l
     by-kind e is-input w = input (counted e (inputs ∙ c .inputs) (first-left row _ (w .row-left)))
     by-kind e (is-reg l m) w = reg l (counted e (registers ∙ c .registers) (first-left st _ (w .state-left)))
-    by-kind e (is-not {a} l) w = rw (w .pins a l) (not l)
-    by-kind e (is-and {a} {b} l m) w = rw (w .pins a l, w .pins b m) (and l m)
-    by-kind e (is-or {a} {b} l m) w = rw (w .pins a l, w .pins b m) (or l m)
-    by-kind e (is-xor {a} {b} l m) w = rw (w .pins a l, w .pins b m) (xor l m)
-    by-kind e (is-mux {a} {b} {c} l m o) w = rw (w .pins a l, w .pins b m, w .pins c o) (mux l m o)
-    by-kind e (is-out {a} l m) w = rw (w .pins a l) (out l)
+    by-kind e (is-not {a} l) w = rw (reads w a l) (not l)
+    by-kind e (is-and {a} {b} l m) w = rw (reads w a l, reads w b m) (and l m)
+    by-kind e (is-or {a} {b} l m) w = rw (reads w a l, reads w b m) (or l m)
+    by-kind e (is-xor {a} {b} l m) w = rw (reads w a l, reads w b m) (xor l m)
+    by-kind e (is-mux {a} {b} {c} l m o) w = rw (reads w a l, reads w b m, reads w c o) (mux l m o)
+    by-kind e (is-out {a} l m) w = rw (reads w a l) (out l)
 
     has-byte : WorkedOut gateByte (netsOf s) row st bs i (netOf s i) → HasByte s row st bs i (netOf s i) (getD bs i 0)
     has-byte w = rw (w .byte) (by-kind refl (rw (net-in s _ i _ refl h) (net-passes c refl i h)) w)
 
 pub net-bytes : NetBytesAll
-unfolding cycleOf clocked pinByte
+unfolding cycleOf clocked
 net-bytes s row st a inputs registers =
     let c = check-none s .0 a in
     record {
@@ -65,7 +69,7 @@ net-bytes s row st a inputs registers =
 
 -- the byte that a net may have is the one that its rule gives it
 by-rule : {s row st bs : List ℕ} {i : ℕ} {x : Net} {b : ℕ} → HasByte s row st bs i x b → b ≡ netByte gateByte x (sight (netsOf s) row st bs i)
-unfolding netByte pinByte gateByte
+unfolding netByte gateByte
 by-rule (const l) = refl
 by-rule {row = row} (input c) = sym (c .byte) ∙ first-left row _ refl
 by-rule {st = st} (reg l c) = sym (c .byte) ∙ first-left st _ refl

@@ -9,6 +9,7 @@ use Rattle.claims.proofs.Examples
 use Rattle.claims.proofs.Accepted
 use Rattle.claims.proofs.Refused
 use Rattle.claims.proofs.Unchanged
+use Rattle.claims.proofs.PinsMean
 use Rattle.claims.proofs.NetBytes
 use Rattle.claims.proofs.PowerUp
 use Rattle.claims.proofs.Verdicts
@@ -43,6 +44,7 @@ promised =
       gates-monotone = Laws.gates-monotone;
       examples = Examples.examples;
       power-up-starts = PowerUp.power-up-starts;
+      pins-mean = PinsMean.pins-mean;
       net-bytes = NetBytes.net-bytes;
       ruled-bytes = NetBytes.ruled-bytes;
       verdicts = Verdicts.verdicts;

@@ -8,6 +8,7 @@ use mathlib.Core.Option.{none}
 use lib.ListN.{length, getD}
 use Rattle.image.specs.declared.image.Net.{Net}
 use Rattle.image.specs.Image.{sizesOf, netsOf, count}
+use Rattle.image.specs.Pins.{pinNet}
 use Rattle.checking.specs.Check.{checkRefusal}
 use Rattle.cycle.specs.Calls.{stateLength, powerUpRefusal, stepRefusal, runRefusal}
 use Rattle.doubled.specs.Doubled.{doubledSize}
@@ -21,12 +22,13 @@ pub record Sized (s : List ℕ) : Type 0 where
   pub few-nets : sizesOf s .nets ≤ 8192
   pub exact : length s ≡ 8 + 7 * sizesOf s .nets
 
--- 5 does not apply to x as net i of n: the pin of a REG is below n; the pins of kinds 3 to 8 are below i, where kinds 4 to 7 have b and kind 7 has c
+-- 5 does not apply to x as net i of n: the pin of a REG names a net below n; the pins of kinds 3 to 8 name nets below i, where kinds 4 to 7 have b and kind 7 has c.
+-- Which net a pin names, with its top bit or without, is said in PinsMean
 pub record PinsBelow (n i : ℕ) (x : Net) : Type 0 where
-  pub reg : x .kind ≡ 2 → x .a < n
-  pub a : 3 ≤ x .kind → x .kind ≤ 8 → x .a < i
-  pub b : 4 ≤ x .kind → x .kind ≤ 7 → x .b < i
-  pub c : x .kind ≡ 7 → x .c < i
+  pub reg : x .kind ≡ 2 → pinNet (x .a) < n
+  pub a : 3 ≤ x .kind → x .kind ≤ 8 → pinNet (x .a) < i
+  pub b : 4 ≤ x .kind → x .kind ≤ 7 → pinNet (x .b) < i
+  pub c : x .kind ≡ 7 → pinNet (x .c) < i
 
 -- 6 does not apply: a CONST is 0 or 1, a start 0 to 2, a policy 0 or 1
 pub record ValuesListed (x : Net) : Type 0 where

@@ -8,7 +8,7 @@ use Rattle.gates.specs.Kinds.{REG, OUT}
 use Rattle.image.specs.Image.{sizesOf, net, netsOf}
 use Rattle.checking.specs.Check.{checkRefusal}
 use Rattle.groups.specs.Groups.{groupLength}
-use Rattle.doubled.specs.Doubled.{groupAt, doubledSize, valueNet, markNet, doubledNets}
+use Rattle.doubled.specs.Doubled.{valuePin, markPin, groupAt, doubledSize, valueNet, markNet, doubledNets}
 use Rattle.doubling.specs.Doubling.{doubledImage, doubleRefusal, doubleOf}
 use Rattle.claims.specs.NetBytes.{netOf}
 
@@ -50,13 +50,13 @@ pub record Unseen (s : List ℕ) : Type 0 where
   pub outs : (j : ℕ) → netOf (doubledImage s) j .kind ≡ OUT → netOf (doubledImage s) j .b ≡ 0
   pub values :
       (i : ℕ) → i < sizesOf s .nets → netOf s i .kind ≡ REG
-      → netOf (doubledImage s) (valueNet (netsOf s) i) ≡ net REG (valueNet (netsOf s) (netOf s i .a)) (netOf s i .b) 0
+      → netOf (doubledImage s) (valueNet (netsOf s) i) ≡ net REG (valuePin (netsOf s) (netOf s i .a)) (netOf s i .b) 0
   pub marks :
       (i : ℕ) → i < sizesOf s .nets → netOf s i .kind ≡ REG → (netOf s i .b ≡ 2 → ⊥)
-      → netOf (doubledImage s) (markNet (netsOf s) i) ≡ net REG (markNet (netsOf s) (netOf s i .a)) 0 0
+      → netOf (doubledImage s) (markNet (netsOf s) i) ≡ net REG (markPin (netsOf s) (netOf s i .a)) 0 0
   pub unknown-marks :
       (i : ℕ) → i < sizesOf s .nets → netOf s i .kind ≡ REG → netOf s i .b ≡ 2
-      → netOf (doubledImage s) (markNet (netsOf s) i) ≡ net REG (markNet (netsOf s) (netOf s i .a)) 1 0
+      → netOf (doubledImage s) (markNet (netsOf s) i) ≡ net REG (markPin (netsOf s) (netOf s i .a)) 1 0
 
 -- proved as `doubled-unseen`
 abbrev pub DoubledUnseen : Type 0

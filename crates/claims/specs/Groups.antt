@@ -1,11 +1,11 @@
--- The groups of the doubled netlist: the nets of each kind's group, for any net; and, computed, all groups of a netlist with one net of each kind.
+-- The groups of the doubled netlist: the nets of each kind's group, for any net; and, computed, all groups of a netlist with one net of each kind, and of one with inverted pins.
 use Prim.Native.Nat.{ℕ, _+_}
 use mathlib.Core.Path.{_≡_}
 use mathlib.Core.List.{List, [], _∷_, _++_}
 use Rattle.gates.specs.Kinds.{CONST, INPUT, REG, NOT, AND, OR, XOR, MUX, OUT}
 use Rattle.image.specs.declared.image.Net.{Net}
 use Rattle.image.specs.Image.{net}
-use Rattle.doubled.specs.Doubled.{valueNet, markNet, groupAt, doubledSize, doubledNets}
+use Rattle.doubled.specs.Doubled.{valueNet, valuePin, markPin, groupAt, doubledSize, doubledNets}
 
 -- 0 CONST 1; 1 INPUT; 2 REG(7, no start given); 3 NOT 1; 4 AND(1, 3); 5 OR(1, 4); 6 XOR(3, 5); 7 MUX(4, 5, 6); 8 OUT 7, protected
 unfoldable pub oneOfEach : List Net
@@ -43,29 +43,60 @@ theirGroups =
     -- 31 OUT: OUT va, free; OUT ta, free
     ++ (net OUT 24 0 0 ∷ net OUT 30 0 0 ∷ [])
 
--- the group of net i of xs, which is x: the value net and the mark net of pin a are va and ta, and so for b and c; the first net of the group is v.
+-- the same nets with inverted pins: the top bit on each pin of kinds 2 to 8 but b of the AND and a of the OR
+abbrev top : ℕ → ℕ
+top j = 32768 + j
+
+unfoldable pub invertedOfEach : List Net
+invertedOfEach =
+    net CONST 1 0 0
+    ∷ net INPUT 0 0 0
+    ∷ net REG (top 7) 2 0
+    ∷ net NOT (top 1) 0 0
+    ∷ net AND (top 1) 3 0
+    ∷ net OR 1 (top 4) 0
+    ∷ net XOR (top 3) (top 5) 0
+    ∷ net MUX (top 4) (top 5) (top 6)
+    ∷ net OUT (top 7) 1 0
+    ∷ []
+
+-- "value pins keep the bit and mark pins drop it", and a pin to a net of the group itself has none
+unfoldable pub invertedGroups : List Net
+invertedGroups =
+    (net CONST 1 0 0 ∷ net CONST 0 0 0 ∷ [])
+    ++ (net INPUT 0 0 0 ∷ net INPUT 0 0 0 ∷ [])
+    ++ (net REG (top 24) 2 0 ∷ net REG 30 1 0 ∷ [])
+    ++ (net NOT (top 2) 0 0 ∷ net OR 3 3 0 ∷ [])
+    ++ (net AND (top 2) 6 0 ∷ net AND 3 6 0 ∷ net AND 7 (top 2) 0 ∷ net AND 3 7 0 ∷ net OR 9 10 0 ∷ net OR 12 11 0 ∷ [])
+    ++ (net OR 2 (top 8) 0 ∷ net NOT 2 0 0 ∷ net NOT (top 8) 0 0 ∷ net AND 3 16 0 ∷ net AND 13 15 0 ∷ net AND 3 13 0 ∷ net OR 17 18 0 ∷ net OR 20 19 0 ∷ [])
+    ++ (net XOR (top 6) (top 14) 0 ∷ net OR 7 21 0 ∷ [])
+    ++ (net MUX (top 8) (top 14) (top 22)
+    ∷ net OR (top 8) (top 14) 0 ∷ net OR 13 21 0 ∷ net OR 25 26 0 ∷ net AND 23 27 0 ∷ net MUX 13 21 (top 22) ∷ net OR 28 29 0 ∷ [])
+    ++ (net OUT (top 24) 0 0 ∷ net OUT 30 0 0 ∷ [])
+
+-- the group of net i of xs, which is x: pin a becomes the value pin va and the mark pin ta, and so b and c (PinsMean); the first net of the group is v.
 -- The kinds are 0 CONST, 1 INPUT, 2 REG, 3 NOT, 4 AND, 5 OR, 6 XOR, 7 MUX, 8 OUT
 module _ (xs : List Net) (i : ℕ) (x : Net) where
   abbrev v : ℕ
   v = valueNet xs i
 
   abbrev va : ℕ
-  va = valueNet xs (x .a)
+  va = valuePin xs (x .a)
 
   abbrev ta : ℕ
-  ta = markNet xs (x .a)
+  ta = markPin xs (x .a)
 
   abbrev vb : ℕ
-  vb = valueNet xs (x .b)
+  vb = valuePin xs (x .b)
 
   abbrev tb : ℕ
-  tb = markNet xs (x .b)
+  tb = markPin xs (x .b)
 
   abbrev vc : ℕ
-  vc = valueNet xs (x .c)
+  vc = valuePin xs (x .c)
 
   abbrev tc : ℕ
-  tc = markNet xs (x .c)
+  tc = markPin xs (x .c)
 
   pub record GroupNets : Type 0 where
     pub const : x .kind ≡ 0 → groupAt xs i x ≡ net 0 (x .a) 0 0 ∷ net 0 0 0 0 ∷ []
@@ -86,3 +117,4 @@ pub record Groups : Type 0 where
   pub each : (xs : List Net) (i : ℕ) (x : Net) → GroupNets xs i x
   pub nets : doubledNets oneOfEach ≡ theirGroups
   pub size : doubledSize oneOfEach ≡ 33
+  pub inverted : doubledNets invertedOfEach ≡ invertedGroups

@@ -5,6 +5,7 @@ pub mod Examples
 pub mod Accepted
 pub mod Refused
 pub mod Unchanged
+pub mod PinsMean
 pub mod NetBytes
 pub mod PowerUp
 pub mod Verdicts

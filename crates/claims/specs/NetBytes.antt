@@ -5,11 +5,12 @@ use mathlib.Core.List.{List}
 use mathlib.Core.Option.{none}
 use lib.ListN.{length, getD, take}
 use Rattle.gates.specs.Kinds.{CONST, INPUT, REG, NOT, AND, OR, XOR, MUX, OUT}
-use Rattle.gates.specs.Rules.{notByte, andByte, orByte, xorByte, muxByte}
+use Rattle.gates.specs.Rules.{notByte, andByte, orByte, xorByte, muxByte, gateByte}
 use Rattle.image.specs.declared.image.Net.{Net}
 use Rattle.image.specs.Image.{sizesOf, net, netsOf, count}
+use Rattle.image.specs.Pins.{pinNet}
 use Rattle.checking.specs.Check.{checkRefusal}
-use Rattle.cycle.specs.Cycle.{Cycle, cycleOf}
+use Rattle.cycle.specs.Cycle.{pinByte, Cycle, cycleOf}
 use Rattle.cycle.specs.Calls.{stateLength}
 pub use Rattle.claims.specs.Reading.{netOf}
 
@@ -24,30 +25,30 @@ pub record Counted (k : ℕ) (s : List ℕ) (i : ℕ) (bytes : List ℕ) (x : �
 
 -- in a cycle with this row and state, and with the bytes bs of all nets: what net i may be, and the byte that it then has
 module _ (s row st bs : List ℕ) (i : ℕ) where
-  -- the byte of the net that a pin names. It is a net below i, so that all bytes follow from the row and the state, net after net
+  -- what a pin reads (PinsMean says what that is). It names a net below i, so that all bytes follow from the row and the state, net after net
   abbrev pin : (p : ℕ) → ℕ
-  pin p = getD bs p 0
+  pin p = pinByte gateByte bs p
 
   pub data HasByte : Net → ℕ → Type 0 where
     const : {a : ℕ} → a ≤ 1 → HasByte (net CONST a 0 0) a
     input : {x : ℕ} → Counted INPUT s i row x → HasByte (net INPUT 0 0 0) x
-    reg : {a b x : ℕ} → a < sizesOf s .nets → Counted REG s i st x → HasByte (net REG a b 0) x
-    not : {a : ℕ} → a < i → HasByte (net NOT a 0 0) (notByte (pin a))
-    and : {a b : ℕ} → a < i → b < i → HasByte (net AND a b 0) (andByte (pin a) (pin b))
-    or : {a b : ℕ} → a < i → b < i → HasByte (net OR a b 0) (orByte (pin a) (pin b))
-    xor : {a b : ℕ} → a < i → b < i → HasByte (net XOR a b 0) (xorByte (pin a) (pin b))
-    mux : {a b c : ℕ} → a < i → b < i → c < i → HasByte (net MUX a b c) (muxByte (pin a) (pin b) (pin c))
-    out : {a b : ℕ} → a < i → HasByte (net OUT a b 0) (pin a)
+    reg : {a b x : ℕ} → pinNet a < sizesOf s .nets → Counted REG s i st x → HasByte (net REG a b 0) x
+    not : {a : ℕ} → pinNet a < i → HasByte (net NOT a 0 0) (notByte (pin a))
+    and : {a b : ℕ} → pinNet a < i → pinNet b < i → HasByte (net AND a b 0) (andByte (pin a) (pin b))
+    or : {a b : ℕ} → pinNet a < i → pinNet b < i → HasByte (net OR a b 0) (orByte (pin a) (pin b))
+    xor : {a b : ℕ} → pinNet a < i → pinNet b < i → HasByte (net XOR a b 0) (xorByte (pin a) (pin b))
+    mux : {a b c : ℕ} → pinNet a < i → pinNet b < i → pinNet c < i → HasByte (net MUX a b c) (muxByte (pin a) (pin b) (pin c))
+    out : {a b : ℕ} → pinNet a < i → HasByte (net OUT a b 0) (pin a)
 
 -- a cycle c with this row and state: N net bytes; O output bytes, those of the OUTs; and R register bytes after the clock, when every register has taken
--- the byte of its net, as it was in this cycle
+-- what its pin reads, as it was in this cycle
 pub record NetBytes (s row st : List ℕ) (c : Cycle) : Type 0 where
   pub nets : length (c .bytes) ≡ sizesOf s .nets
   pub net-byte : (i : ℕ) → i < sizesOf s .nets → HasByte s row st (c .bytes) i (netOf s i) (getD (c .bytes) i 0)
   pub outputs : length (c .outputs) ≡ sizesOf s .outputs
   pub output-byte : (i : ℕ) → i < sizesOf s .nets → netOf s i .kind ≡ OUT → Counted OUT s i (c .outputs) (getD (c .bytes) i 0)
   pub registers : length (c .state) ≡ stateLength (sizesOf s)
-  pub clock : (i : ℕ) → i < sizesOf s .nets → netOf s i .kind ≡ REG → Counted REG s i (c .state) (getD (c .bytes) (netOf s i .a) 0)
+  pub clock : (i : ℕ) → i < sizesOf s .nets → netOf s i .kind ≡ REG → Counted REG s i (c .state) (pinByte gateByte (c .bytes) (netOf s i .a))
 
 -- every cycle on an accepted image, with a row of I bytes and a state of R. An accepted step is one (StepIsCycle of Steps), and an accepted run is its steps (AsSteps).
 -- Proved as `net-bytes`

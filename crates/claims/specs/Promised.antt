@@ -8,6 +8,7 @@ use Rattle.claims.specs.Reading.{ImageRead}
 use Rattle.claims.specs.Accepted.{Accepted}
 use Rattle.claims.specs.Refused.{Refusals}
 use Rattle.claims.specs.Unchanged.{Unchanged}
+use Rattle.claims.specs.PinsMean.{PinsMean}
 use Rattle.claims.specs.NetBytes.{NetBytesAll, RuledBytesAll}
 use Rattle.claims.specs.PowerUp.{PowerUpStarts}
 use Rattle.claims.specs.Verdicts.{Verdicts, FirstFlows}
@@ -54,7 +55,9 @@ pub record Promised : Type 0 where
   pub examples : Examples
   -- Power-up gives each register its start, trusted, or, where none is given, an untrusted 0, whatever the state held before.
   pub power-up-starts : PowerUpStarts
-  -- In every cycle, which a step is and of which a run is made, each net has the byte of its kind, and after the clock each register the byte of its net.
+  -- A pin reads the byte of the net that it names; with its top bit set, that net's value inverted, and its mark. In the doubled netlist value pins keep the bit, and mark pins drop it.
+  pub pins-mean : PinsMean
+  -- In every cycle, which a step is and of which a run is made, each net has the byte of its kind, and after the clock each register what its pin reads.
   pub net-bytes : NetBytesAll
   -- No other bytes are such, so that the bytes of a cycle can be checked net by net.
   pub ruled-bytes : RuledBytesAll

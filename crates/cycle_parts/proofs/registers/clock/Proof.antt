@@ -40,8 +40,7 @@ pin-byte-requires c κs =
     let turn = c .before .before .before in
     let start = turn .before .before .before .before .before in
     let size = start .pre .1 in
-    let pin = c .operand-of .ensures in
-    (
+    let pin = c .operand-of .ensures in (
       pin .1,
       rw (pin .0, ← size .0, size .1) (pin-below (checked start) (size .0) _ (turn .loop-test .taken) (is-register (c .before))),
       size .3 .low _,

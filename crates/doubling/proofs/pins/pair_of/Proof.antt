@@ -44,8 +44,7 @@ returns c =
     let named = start .before .before in
     let starts = named .before .args .starts .now in
     let p = named .before .args .p in
-    let value = value-is p starts (named .pin-net .ensures) (start .wide .ensures .0) in
-    (
+    let value = value-is p starts (named .pin-net .ensures) (start .wide .ensures .0) in (
       value,
       mark-is p starts (named .pin-net .ensures) (c .wide2 .ensures .0),
       record {

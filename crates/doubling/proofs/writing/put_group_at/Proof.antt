@@ -31,8 +31,7 @@ module _ (c : tie.Start) (p : ℕ) (named : pinNet p < 8192) where
 
   asked : ((p < 65536) × (pinNet p < 8192)) × ((getD (c .args .starts .now) (pinNet p) 0 ≤ 8192) × (0 < getD (c .args .starts .now) (pinNet p + 1) 0))
   asked =
-      let starts = c .pre .1 .0 .1 in
-      (
+      let starts = c .pre .1 .0 .1 in (
         (omega (arith, pin-most p), named),
         (
           rw (starts (pinNet p) (omega arith)) (omega (arith, value-up xs (pinNet p), c .pre .1 .0 .2)),
@@ -64,8 +63,7 @@ put-group-requires c κs =
     let first = second .before in
     let read = first .before .before in
     let begin = read .before .before .before .before .before in
-    let x = read .net-of .ensures .0 in
-    (
+    let x = read .net-of .ensures .0 in (
       (rw x (kind-most (passes begin)), rw (own (read .before), x) (begin .pre .1 .1)),
       (read .net-of .ensures .1, first .pair-of .ensures .2, second .pair-of2 .ensures .2, c .pair-of3 .ensures .2),
     )

@@ -114,8 +114,7 @@ put-both-requires : tie.Need-put-both-requires
 put-both-requires c κs =
     let gate = c .before in
     let known = gate .before in
-    let at = begun (read known) in
-    (
+    let at = begun (read known) in (
       omega (arith, at .pre .1 .1, few (read known)),
       omega (arith, at .pre .1 .1, few (read known), at .pre .1 .2),
       rw (gate .gate-byte .ensures) (gate-low _ _ _ _ (low-a known) (low-b known) (low-c known)),
