@@ -58,7 +58,7 @@ enum {
     TRACKER_NETS_OUT_OF_RANGE = 2, /* N is 0 or above 8,192 */
     TRACKER_IMAGE_LENGTH = 3,      /* not 8 + 7 x N */
     TRACKER_KIND = 4,              /* above 8; the place is the net */
-    TRACKER_PIN = 5,               /* without its top bit not below its net, or a REG's not below N; the place is the net */
+    TRACKER_PIN = 5,               /* names no net below its own, or a REG's none below N; the place is the net */
     TRACKER_VALUE = 6,             /* a CONST above 1, a start above 2, a policy above 1; the place is the net */
     TRACKER_UNLISTED_OPERAND = 7,  /* not 0; the place is the net */
     TRACKER_COUNTS = 8,            /* I, R or O is wrong */

@@ -4,15 +4,17 @@
 // array, the constants are set and the lowest gate is found. In a cycle the
 // row's and the state's bytes are put at their nets, the gates are settled in net
 // order, four nets to a turn, and the verdict, the outputs and the clock go
-// through the lists. It includes nothing, so that a clang without headers, such as
-// the one that compiles the library, takes it too.
+// through the lists. The inverse of each net stands in the same array, as far behind
+// it as the top bit of a pin says, so that a pin is the place of what it reads. It
+// includes nothing, so that a clang without headers, such as the one that compiles
+// the library, takes it too.
 
 typedef __SIZE_TYPE__ size_t;
 typedef __UINT8_TYPE__ uint8_t;
 typedef __UINT16_TYPE__ uint16_t;
 typedef __UINT64_TYPE__ uint64_t;
 
-enum { HEAD = 8, MOST_NETS = 8192 };
+enum { HEAD = 8, MOST_NETS = 8192, INVERTED = 32768 };
 enum { CONST = 0, INPUT = 1, REG = 2, NOT = 3, OUT = 8 };
 
 // The number of a clear verdict.
@@ -37,9 +39,15 @@ static void list_nets(const uint8_t *kinds, uint8_t kind, uint16_t *list, size_t
     }
 }
 
+// Net i takes a byte, and its inverse the other one.
+static inline void put(uint8_t *restrict nets, size_t i, uint8_t byte) {
+    nets[i] = byte;
+    nets[INVERTED + i] = byte ^ 1;
+}
+
 // The bytes before the first cycle: a CONST's own, and 0 elsewhere.
 static void set_constants(const uint8_t *kinds, const uint8_t *operands, size_t n, uint8_t *restrict nets) {
-    for (size_t i = 0; i < n; i++) nets[i] = (kinds[i] == CONST) * (uint8_t)operand(operands, i, 0);
+    for (size_t i = 0; i < n; i++) put(nets, i, (kinds[i] == CONST) * (uint8_t)operand(operands, i, 0));
 }
 
 // The lowest gate or OUT, or n where there is none.
@@ -51,7 +59,7 @@ static size_t lowest_gate(const uint8_t *kinds, size_t n) {
 
 // Each listed net takes a byte, in order.
 static inline void put_bytes(const uint16_t *list, size_t count, const uint8_t *restrict bytes, uint8_t *restrict nets) {
-    for (size_t j = 0; j < count; j++) nets[list[j]] = bytes[j];
+    for (size_t j = 0; j < count; j++) put(nets, list[j], bytes[j]);
 }
 
 // Net i takes its byte where it is a gate or OUT.
@@ -60,7 +68,7 @@ static inline void settle(const uint8_t *restrict kinds, const uint8_t *restrict
     size_t kind = kinds[i];
     if (kind < NOT) return;
     size_t a = nets[operand(operands, i, 0)], b = nets[operand(operands, i, 1)], c = nets[operand(operands, i, 2)];
-    nets[i] = table[((kind * 4 + a) * 4 + b) * 4 + c];
+    put(nets, i, table[((kind * 4 + a) * 4 + b) * 4 + c]);
 }
 
 // All nets from `from` on.
@@ -85,7 +93,7 @@ uint64_t lists_cycles(const uint8_t *restrict image, const uint8_t *restrict tab
                       const uint8_t *restrict rows, uint8_t *restrict outputs) {
     size_t n = u16_at(image), inputs = u16_at(image + 2), registers = u16_at(image + 4), outs = u16_at(image + 6);
     const uint8_t *kinds = image + HEAD, *operands = kinds + n;
-    uint8_t nets[MOST_NETS];
+    uint8_t nets[INVERTED + MOST_NETS];
     uint16_t list[MOST_NETS], *regs = list + inputs, *out = regs + registers;
     uint64_t first = ((uint64_t)k << 16) + CLEAR;
     list_nets(kinds, INPUT, list, inputs);

@@ -1,12 +1,16 @@
 //! Before anything is timed, every peer has to give what the library gives.
 
+use crate::accepted::accepted;
 use crate::cases::Bytes;
 use crate::generate::image;
+use crate::libraries::takes;
 use crate::mix::MIXES;
 use crate::peer::Peer;
 use crate::peers::PEERS;
+use crate::random::Random;
 use crate::sizing::{figures, Figures};
-use tracker::ffi;
+use tracker::kinds::INVERTED;
+use tracker::{ffi, operand_place};
 
 /// How many small netlists are tried.
 const SMALL: usize = 600;
@@ -22,16 +26,16 @@ pub fn assert_agree_on_small(peers: &[Peer]) {
     }
 }
 
-/// Runs the library and the peers for k cycles and compares the answer, all
-/// outputs and the state left. Buffers start with other bytes on each side, so
-/// that what a peer leaves out is seen.
+/// Runs the library and the peers that take the image for k cycles and compares
+/// the answer, all outputs and the state left. Buffers start with other bytes on
+/// each side, so that what a peer leaves out is seen.
 pub fn assert_agree(bytes: &Bytes, k: usize, peers: &[Peer]) {
     let mut state = bytes.start.clone();
     let mut outputs = bytes.outputs(k);
     outputs.fill(0xaa);
     let answer = bytes.run(PEERS[0], k, &mut state, &mut outputs);
     assert!(answer >> 32 == 0, "the library turned the run back");
-    for peer in peers {
+    for peer in peers.iter().filter(|peer| takes(peer.name, &bytes.image)) {
         let mut peer_state = bytes.start.clone();
         let mut peer_outputs = bytes.outputs(k);
         peer_outputs.fill(0x55);
@@ -43,7 +47,8 @@ pub fn assert_agree(bytes: &Bytes, k: usize, peers: &[Peer]) {
 }
 
 /// Compares the peer of the doubled size with the library, on netlists of which
-/// some are too large to be doubled, and on images that are cut short.
+/// some are too large to be doubled, and on images that are cut short or have
+/// another number at an operand. All peers check an image as this one does.
 pub fn assert_sizes_agree() {
     for seed in 0..SMALL {
         let mix = MIXES[seed % MIXES.len()];
@@ -51,7 +56,20 @@ pub fn assert_sizes_agree() {
         let cut = &image[..image.len() - seed % 9];
         assert_size_agrees(&image);
         assert_size_agrees(cut);
+        assert_size_agrees(&changed(&image, seed as u64));
     }
+}
+
+/// An image with a random number at a random operand, with or without the top bit.
+fn changed(image: &[u8], seed: u64) -> Vec<u8> {
+    let mut random = Random::new(seed);
+    let n = accepted(image).sizes().nets;
+    let place = operand_place(n, random.below(n), random.below(3));
+    let limit = if random.chance(50) { 4 } else { n + 4 };
+    let number = random.below(limit) as u16 + INVERTED * random.below(2) as u16;
+    let mut image = image.to_vec();
+    image[place..place + 2].copy_from_slice(&number.to_le_bytes());
+    image
 }
 
 /// Compares the figures of the doubled netlist that the library and the peer give.

@@ -8,8 +8,9 @@ use crate::aligned::{print, row};
 use crate::cases::Bytes;
 use crate::count::{counted, valgrind_is_there};
 use crate::generate::image;
-use crate::libraries::{named, Library, LIBRARIES};
+use crate::libraries::{named, takes, Library, LIBRARIES};
 use crate::mix::{Mix, MIXES};
+use crate::rounds::NO_FIGURE;
 use crate::sizing;
 use tracker::doubled_size;
 
@@ -108,6 +109,9 @@ pub fn print_counts() {
 /// The instructions of one call for each net, in print.
 fn instructions(name: &str, nets: usize, mix: Mix, maker: &str) -> String {
     let arguments = ["count", "call", name, mix.name(), maker];
+    if !takes(maker, &image(mix, nets, NETLIST_SEED, true)) {
+        return NO_FIGURE.to_string();
+    }
     match counted(&arguments, FEW, MANY, nets) {
         Some(counts) => format!("{:.1}", counts.instructions),
         None => "failed".to_string(),

@@ -24,19 +24,22 @@ const fn case(mix: Mix, nets: usize, protect: bool) -> Case {
 }
 
 /// All cases.
-pub const CASES: [Case; 12] = [
+pub const CASES: [Case; 15] = [
     case(Mix::Equal, 8192, true),
     case(Mix::Gates, 8192, true),
     case(Mix::Live, 8192, true),
     case(Mix::Real, 8192, true),
+    case(Mix::Inverted, 8192, true),
     case(Mix::Equal, 1100, true),
     case(Mix::Gates, 1100, true),
     case(Mix::Live, 1100, true),
     case(Mix::Real, 1100, true),
+    case(Mix::Inverted, 1100, true),
     case(Mix::Equal, 8192, false),
     case(Mix::Gates, 8192, false),
     case(Mix::Live, 8192, false),
     case(Mix::Real, 8192, false),
+    case(Mix::Inverted, 8192, false),
 ];
 
 impl Case {

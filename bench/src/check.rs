@@ -4,6 +4,7 @@
 
 use crate::call::Call;
 use crate::limits::{Limits, NO_KIND};
+use crate::pins::net_of;
 use tracker::kinds::{AND, CONST, INPUT, MUX, NOT, OUT, REG, XOR};
 use tracker::{sizes, Image, Net, Sizes, MOST_CYCLES, MOST_NETS};
 
@@ -49,7 +50,7 @@ pub fn count(image: &[u8]) -> Result<(Sizes, KindCounts), u64> {
 /// The number of the refusal 4 to 7 that net i of n draws, which is refused.
 #[cold]
 fn bad_net(net: Net, i: usize, n: usize) -> u64 {
-    let below = |pin: u16, limit: usize| usize::from(pin) < limit;
+    let below = |pin: u16, limit: usize| net_of(pin) < limit;
     // Whether the pins name nets that they may name, and whether the settings
     // are in range.
     let [a, b, c] = net.operands;
@@ -58,8 +59,8 @@ fn bad_net(net: Net, i: usize, n: usize) -> u64 {
         INPUT => (true, true),
         REG => (below(a, n), b <= 2),
         NOT => (below(a, i), true),
-        AND..=XOR => (below(a.max(b), i), true),
-        MUX => (below(a.max(b).max(c), i), true),
+        AND..=XOR => (below(a, i) && below(b, i), true),
+        MUX => (below(a, i) && below(b, i) && below(c, i), true),
         OUT => (below(a, i), b <= 1),
         _ => return 4,
     };

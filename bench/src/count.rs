@@ -60,7 +60,8 @@ pub fn counted(arguments: &[&str], few: usize, many: usize, nets: usize) -> Opti
     Some(more / (nets * (many - few)) as f64)
 }
 
-/// All that this program counts with some arguments and a number behind them.
+/// All that this program counts with some arguments and a number behind them, if
+/// it comes to its end.
 fn total(arguments: &[&str], number: usize) -> Option<Counts> {
     let output = Command::new("valgrind")
         .env("GLIBC_TUNABLES", LOOPS)
@@ -70,7 +71,8 @@ fn total(arguments: &[&str], number: usize) -> Option<Counts> {
         .args(arguments)
         .arg(number.to_string())
         .output()
-        .ok()?;
+        .ok()
+        .filter(|output| output.status.success())?;
     let text = String::from_utf8_lossy(&output.stderr).into_owned();
     Some(Counts {
         instructions: figure(&text, "refs:")?,

@@ -5,8 +5,10 @@ use std::hint::black_box;
 use crate::aligned::{print, row};
 use crate::cases::{Bytes, CASES};
 use crate::count::{counted, valgrind_is_there, Counts};
+use crate::libraries::takes;
 use crate::peer::Peer;
 use crate::peers::named;
+use crate::rounds::NO_FIGURE;
 
 /// The two numbers of cycles. Their difference leaves out the check of the image
 /// and what a run does once.
@@ -31,7 +33,11 @@ pub fn print_counts(peers: &[Peer]) {
     }
     let mut table = vec![row("", peers.iter().map(|peer| peer.name))];
     for (number, case) in CASES.iter().enumerate() {
+        let image = Bytes::of(*case, 0).image;
         let of = |peer: &Peer| {
+            if !takes(peer.name, &image) {
+                return NO_FIGURE.to_string();
+            }
             let arguments = ["count", "run", &number.to_string(), peer.name];
             text(counted(&arguments, FEW, MANY, case.nets))
         };

@@ -1,5 +1,6 @@
 //! Random netlists and rows.
 
+use crate::inverting::invert_pins;
 use crate::mix::{Mix, PROTECTED};
 use crate::random::Random;
 use crate::real::real_net;
@@ -31,6 +32,9 @@ pub fn image(mix: Mix, n: usize, seed: u64, protect: bool) -> Vec<u8> {
         }
         nets.push(net);
     }
+    if mix == Mix::Inverted {
+        invert_pins(&mut nets, seed);
+    }
     encode(&nets)
 }
 
@@ -59,7 +63,7 @@ fn random_kind(random: &mut Random, mix: Mix, i: usize) -> u8 {
         return random.below(3) as u8;
     }
     match mix {
-        Mix::Equal => random.below(9) as u8,
+        Mix::Equal | Mix::Inverted => random.below(9) as u8,
         _ if random.chance(85) => NOT + random.below(6) as u8,
         Mix::Live => INPUT + random.below(2) as u8,
         _ => random.below(3) as u8,

@@ -1,6 +1,7 @@
 //! The library's calls, and those of another build of it where TRACKER_OTHER
 //! named one when this program was built.
 
+use crate::pins::has_inverted_pins;
 use tracker::ffi;
 
 #[cfg(other)]
@@ -66,4 +67,11 @@ pub fn named(name: &str) -> Option<Library> {
         .iter()
         .find(|library| library.name == name)
         .copied()
+}
+
+/// Whether a build or a peer of a name takes an accepted image. All do, but for
+/// another build of before inverted pins, which refuses images that have some.
+pub fn takes(name: &str, image: &[u8]) -> bool {
+    let accepts = |library: Library| (library.check)(image) == 0;
+    !has_inverted_pins(image) || named(name).map_or(true, accepts)
 }

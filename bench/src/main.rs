@@ -23,6 +23,7 @@ mod generate;
 mod hardware;
 #[cfg(c_peer)]
 mod in_c;
+mod inverting;
 mod libraries;
 mod limits;
 mod linear;
@@ -33,6 +34,7 @@ mod once;
 mod other;
 mod peer;
 mod peers;
+mod pins;
 mod plain;
 mod random;
 mod real;
@@ -126,7 +128,7 @@ fn count(words: &[&str]) {
 
 /// A mix among the arguments.
 fn named_mix(word: &str) -> Mix {
-    mix::named(word).unwrap_or_else(|| fail("the mix is equal, gates, live or real"))
+    mix::named(word).unwrap_or_else(|| fail("the mix is equal, gates, live, real or inverted"))
 }
 
 /// A number among the arguments.

@@ -16,10 +16,18 @@ pub enum Mix {
     /// The INPUTs first, then the REGs, the gates, and the OUTs last, and most
     /// pins of a gate name a net shortly before it.
     Real,
+    /// The netlist of Equal, with half of all pins inverted.
+    Inverted,
 }
 
 /// All mixes.
-pub const MIXES: [Mix; 4] = [Mix::Equal, Mix::Gates, Mix::Live, Mix::Real];
+pub const MIXES: [Mix; 5] = [
+    Mix::Equal,
+    Mix::Gates,
+    Mix::Live,
+    Mix::Real,
+    Mix::Inverted,
+];
 
 impl Mix {
     /// What the mix is called, in print and among arguments.
@@ -29,6 +37,7 @@ impl Mix {
             Mix::Gates => "gates",
             Mix::Live => "live",
             Mix::Real => "real",
+            Mix::Inverted => "inverted",
         }
     }
 }

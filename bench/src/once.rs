@@ -7,10 +7,11 @@ use crate::agree::assert_agree;
 use crate::aligned::{print, row};
 use crate::cases::{Bytes, Case};
 use crate::count::{counted, valgrind_is_there};
+use crate::libraries::takes;
 use crate::mix::{Mix, MIXES};
 use crate::peer::Peer;
 use crate::peers::named;
-use crate::rounds::{low_and_median, ratio};
+use crate::rounds::{low_and_median, ratio, NO_FIGURE};
 
 /// The numbers of nets.
 const NETS: [usize; 3] = [100, 1100, 8192];
@@ -92,22 +93,28 @@ pub fn print_times(peers: &[Peer]) {
     print(&ratios);
 }
 
-/// The nanoseconds of a call for each net, for each peer and round.
+/// The nanoseconds of a call for each net, for each peer and round. Of a peer that
+/// does not take the image there are none.
 fn times(case: Case, peers: &[Peer]) -> Vec<Vec<f64>> {
     let bytes = Bytes::of(case, ROWS);
     assert_agree(&bytes, 1, peers);
     let number = TIMED_NETS / case.nets;
-    let mut calls: Vec<Calls> = peers.iter().map(|peer| Calls::new(*peer, &bytes)).collect();
     let mut times = vec![Vec::new(); peers.len()];
+    let timed = peers.iter().zip(&mut times);
+    let timed = timed.filter(|(peer, _)| takes(peer.name, &bytes.image));
+    let mut timed: Vec<_> = timed
+        .map(|(peer, times)| (Calls::new(*peer, &bytes), times))
+        .collect();
     for _ in 0..ROUNDS {
-        for (calls, times) in calls.iter_mut().zip(&mut times) {
+        for (calls, times) in &mut timed {
             let start = Instant::now();
             calls.make(&bytes, number);
             let time = start.elapsed().as_secs_f64();
             times.push(time * 1e9 / (case.nets * number) as f64);
         }
     }
-    assert!(calls.iter().all(|other| other.state == calls[0].state));
+    let first = &timed[0].0.state;
+    assert!(timed.iter().all(|(calls, _)| calls.state == *first));
     times
 }
 
@@ -130,6 +137,9 @@ pub fn print_counts(peers: &[Peer]) {
         let of = |peer: &Peer| {
             let nets = case.nets.to_string();
             let arguments = ["count", "once", case.mix.name(), &nets, peer.name];
+            if !takes(peer.name, &Bytes::of(case, 0).image) {
+                return NO_FIGURE.to_string();
+            }
             match counted(&arguments, FEW, MANY, case.nets) {
                 Some(counts) => format!("{:.1}", counts.instructions),
                 None => "failed".to_string(),

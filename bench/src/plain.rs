@@ -4,6 +4,7 @@
 
 use crate::accepted::accepted;
 use crate::call::{Call, First};
+use crate::pins::{is_inverted, net_of};
 use tracker::kinds::{AND, CONST, INPUT, NOT, OR, OUT, REG, XOR};
 use tracker::{Image, Sizes};
 
@@ -30,7 +31,7 @@ pub fn work_out(image: Image, row: &[u8], state: &[u8], nets: &mut [u8]) {
     for i in 0..nets.len() {
         let net = image.net(i);
         let [a, b, c] = net.operands;
-        let pin = |operand: u16| split(nets[usize::from(operand)]);
+        let pin = |operand: u16| split(read(nets, operand));
         let (value, mark) = match net.kind {
             CONST => (a == 1, false),
             INPUT => split(*inputs.next().expect("a row byte for each INPUT")),
@@ -44,6 +45,11 @@ pub fn work_out(image: Image, row: &[u8], state: &[u8], nets: &mut [u8]) {
         };
         nets[i] = u8::from(value) + 2 * u8::from(mark);
     }
+}
+
+/// The byte that a pin reads.
+fn read(nets: &[u8], pin: u16) -> u8 {
+    nets[net_of(pin)] ^ u8::from(is_inverted(pin))
 }
 
 /// The value and the mark of a byte.
@@ -88,12 +94,12 @@ pub fn write_outputs(image: Image, nets: &[u8], out: &mut [u8]) {
     }
 }
 
-/// Every register takes the byte of its net.
+/// Every register takes the byte that its pin reads.
 pub fn clock(image: Image, nets: &[u8], state: &mut [u8]) {
     let mut j = 0;
     for i in 0..nets.len() {
         if image.kinds()[i] == REG {
-            state[j] = nets[usize::from(image.operand(i, 0))];
+            state[j] = read(nets, image.operand(i, 0));
             j += 1;
         }
     }

@@ -1,8 +1,9 @@
 //! The mix "real": a netlist in the order in which tools write it.
 
 use crate::mix::PROTECTED;
+use crate::pins::pins_of;
 use crate::random::Random;
-use tracker::kinds::{INPUT, MUX, NOT, OUT, REG};
+use tracker::kinds::{INPUT, NOT, OUT, REG};
 use tracker::Net;
 
 /// The INPUTs, REGs and OUTs in 100 nets. All others are gates.
@@ -65,12 +66,7 @@ fn any_gate(random: &mut Random, order: &Order) -> usize {
 fn gate(random: &mut Random, i: usize) -> Net {
     let kind = NOT + random.below(5) as u8;
     let mut pins = [0; 3];
-    let count = match kind {
-        NOT => 1,
-        MUX => 3,
-        _ => 2,
-    };
-    for place in &mut pins[..count] {
+    for place in &mut pins[..pins_of(kind)] {
         *place = pin(random, i);
     }
     net(kind, pins)

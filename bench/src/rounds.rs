@@ -5,19 +5,24 @@ use std::hint::black_box;
 use std::time::Instant;
 
 use crate::cases::Bytes;
+use crate::libraries::takes;
 use crate::peer::Peer;
 
 /// The nanoseconds of each peer for each net and cycle, in each round:
-/// `times[peer][round]`.
+/// `times[peer][round]`. Of a peer that does not take the image there are none.
 pub fn rounds(bytes: &Bytes, k: usize, peers: &[Peer], rounds: usize) -> Vec<Vec<f64>> {
     let work = (bytes.sizes.nets * k) as f64;
     let mut times = vec![Vec::new(); peers.len()];
     let mut outputs = bytes.outputs(k);
+    let timed = peers.iter().zip(&mut times);
+    let mut timed: Vec<_> = timed
+        .filter(|(peer, _)| takes(peer.name, &bytes.image))
+        .collect();
     for _ in 0..rounds {
-        for (peer, times) in peers.iter().zip(&mut times) {
+        for (peer, times) in &mut timed {
             let mut state = bytes.start.clone();
             let start = Instant::now();
-            let answer = bytes.run(*peer, k, &mut state, &mut outputs);
+            let answer = bytes.run(**peer, k, &mut state, &mut outputs);
             let time = start.elapsed().as_secs_f64();
             black_box((answer, &state, &outputs));
             times.push(time * 1e9 / work);
@@ -48,14 +53,23 @@ fn median_ratio(above: &[f64], below: &[f64]) -> f64 {
     median(&ratios)
 }
 
+/// What is printed where there is no figure.
+pub const NO_FIGURE: &str = "-";
+
 /// The lowest of a list, and in brackets the median.
 pub fn low_and_median(list: &[f64]) -> String {
+    if list.is_empty() {
+        return NO_FIGURE.to_string();
+    }
     format!("{:.2} ({:.2})", lowest(list), median(list))
 }
 
 /// The ratio of the lowest times above / below, and in brackets the median of the
 /// ratios within the rounds.
 pub fn ratio(above: &[f64], below: &[f64]) -> String {
+    if above.is_empty() || below.is_empty() {
+        return NO_FIGURE.to_string();
+    }
     let low = lowest(above) / lowest(below);
     format!("{low:.2} ({:.2})", median_ratio(above, below))
 }

@@ -1,13 +1,23 @@
 //! All small netlists, and all short lists of bytes.
 
-use crate::listed::{listed_of, pins_of, setting_of};
-use tracker::kinds::{CONST, OUT, REG};
+use crate::listed::{limit_of, pins_of, setting_of};
+use tracker::kinds::{CONST, INVERTED, OUT};
 use tracker::Net;
+
+/// The pins that nets are made of.
+#[derive(Clone, Copy)]
+pub enum Pins {
+    /// None of them is inverted.
+    Plain,
+    /// Each of them is inverted or not.
+    Both,
+}
 
 /// The good nets with the numbers 0 to `count` - 1 in netlists of `size` nets, one
 /// choice for each number, by a place among all `ways` to choose.
-pub fn chosen(place: u64, ways: u64, count: usize, size: usize) -> Vec<Net> {
-    let choices: Vec<Vec<Net>> = (0..count).map(|number| all_nets(number, size)).collect();
+pub fn chosen(pins: Pins, place: u64, ways: u64, count: usize, size: usize) -> Vec<Net> {
+    let choices = (0..count).map(|number| all_nets(pins, number, size));
+    let choices: Vec<Vec<Net>> = choices.collect();
     let product: usize = choices.iter().map(Vec::len).product();
     assert_eq!(product as u64, ways);
     let mut place = place as usize;
@@ -35,42 +45,29 @@ pub fn all_bytes(length: usize) -> Vec<Vec<u8>> {
 }
 
 /// All good nets with this number in a netlist of `size` nets.
-pub fn all_nets(number: usize, size: usize) -> Vec<Net> {
+pub fn all_nets(pins: Pins, number: usize, size: usize) -> Vec<Net> {
     let mut nets = Vec::new();
     for kind in CONST..=OUT {
-        for [a, b, c] in all_operands(size.max(3) as u16) {
-            let net = Net::new(kind, a, b, c);
-            if is_good(&net, number, size) {
-                nets.push(net);
+        let limit = limit_of(kind, number, size) as u16;
+        let [all_a, all_b, all_c] = [0, 1, 2].map(|index| all_operands(pins, kind, index, limit));
+        for a in all_a {
+            for b in &all_b {
+                nets.extend(all_c.iter().map(|c| Net::new(kind, a, *b, *c)));
             }
         }
     }
     nets
 }
 
-/// All triples of operands below a limit.
-fn all_operands(limit: u16) -> Vec<[u16; 3]> {
-    let mut triples = Vec::new();
-    for a in 0..limit {
-        for b in 0..limit {
-            for c in 0..limit {
-                triples.push([a, b, c]);
-            }
+/// All good operands with this index of a net of this kind, whose pins name nets
+/// below a limit.
+fn all_operands(pins: Pins, kind: u8, index: usize, limit: u16) -> Vec<u16> {
+    match (pins, setting_of(kind)) {
+        (Pins::Plain, _) if index < pins_of(kind) => (0..limit).collect(),
+        (Pins::Both, _) if index < pins_of(kind) => {
+            (0..limit).chain(INVERTED..INVERTED + limit).collect()
         }
+        (_, Some((setting, most))) if index == setting => (0..=most).collect(),
+        _ => vec![0],
     }
-    triples
-}
-
-/// A net with this number draws none of the refusals 4 to 7.
-fn is_good(net: &Net, number: usize, size: usize) -> bool {
-    let limit = if net.kind == REG { size } else { number };
-    let pins = &net.operands[..pins_of(net.kind)];
-    let unlisted = &net.operands[listed_of(net.kind)..];
-    let setting_is_good = match setting_of(net.kind) {
-        Some((index, most)) => net.operands[index] <= most,
-        None => true,
-    };
-    pins.iter().all(|pin| usize::from(*pin) < limit)
-        && unlisted.iter().all(|operand| *operand == 0)
-        && setting_is_good
 }

@@ -44,7 +44,7 @@ pub fn double(case: &mut Case, image: &[u8], counts: &Counts) -> Result<Doubled,
 }
 
 /// The nets of an image of the right length, if all its kinds are kinds.
-fn nets_of(image: &[u8]) -> Option<Vec<Net>> {
+pub fn nets_of(image: &[u8]) -> Option<Vec<Net>> {
     let nets: Vec<Net> = Image::of(image)?.nets().collect();
     nets.iter().all(|net| net.kind <= OUT).then_some(nets)
 }

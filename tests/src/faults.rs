@@ -3,13 +3,14 @@
 //! Each puts in what its refusal is for. Where several faults meet, or where a
 //! fault has side effects, the reference says which refusal comes first.
 
-use crate::listed::{listed_of, pins_of, setting_of};
+use crate::listed::{limit_of, listed_of, net_of, pins_of, setting_of};
 use crate::random::Random;
-use tracker::kinds::{AND, CONST, INPUT, MUX, NOT, OR, OUT, REG, XOR};
+use tracker::kinds::{AND, CONST, INPUT, INVERTED, MUX, NOT, OR, OUT, REG, XOR};
 use tracker::{encode_with, image_length, Net, Sizes, MOST_NETS};
 
 /// A fault: the refusal that it is for, and the net where it is put. The net is
-/// of no account for 1, 2, 3 and 8.
+/// of no account for 1, 2, 3 and 8. With the number 0 there is no fault, but a pin
+/// that is only just good.
 #[derive(Clone, Copy)]
 pub struct Fault {
     pub number: usize,
@@ -23,6 +24,7 @@ pub fn damaged(random: &mut Random, nets: &[Net], faults: &[Fault]) -> Vec<u8> {
     for fault in faults {
         let net = &mut nets[fault.net];
         match fault.number {
+            0 => put_highest_pin(random, net, fault.net, sizes.nets),
             4 => net.kind = bad_kind(random, net.kind),
             5 => put_bad_pin(random, net, fault.net, sizes.nets),
             6 => put_bad_setting(random, net),
@@ -49,35 +51,45 @@ fn bad_kind(random: &mut Random, kind: u8) -> u8 {
     random.pick(&[9, 10, 255, any, kind | 16, kind | 128])
 }
 
-/// Gives a pin a number that it must not have. A net without pins first
-/// becomes one that has some.
+/// Has a pin name the highest net that it may, mostly inverted. A net without pins
+/// stays as it is.
+fn put_highest_pin(random: &mut Random, net: &mut Net, number: usize, size: usize) {
+    let limit = limit_of(net.kind, number, size);
+    if pins_of(net.kind) > 0 && limit > 0 {
+        let top = INVERTED * u16::from(random.chance(3, 4));
+        net.operands[random.below(pins_of(net.kind))] = (limit - 1) as u16 + top;
+    }
+}
+
+/// Has a pin name a net that it must not name, inverted or not. A net without
+/// pins first becomes one that has some.
 fn put_bad_pin(random: &mut Random, net: &mut Net, number: usize, size: usize) {
     if pins_of(net.kind) == 0 {
         *net = Net::new(random.pick(&[REG, NOT, AND, OR, XOR, MUX, OUT]), 0, 0, 0);
     }
-    let index = random.below(pins_of(net.kind));
-    let limit = if net.kind == REG { size } else { number };
-    net.operands[index] = bad_number(random, limit, net.operands[index]);
+    let pin = &mut net.operands[random.below(pins_of(net.kind))];
+    let limit = limit_of(net.kind, number, size);
+    let top = INVERTED * u16::from(random.chance(1, 2));
+    *pin = bad_number(random, limit, 32_767, net_of(*pin)) + top;
 }
 
-/// A number that is not below the limit: just at it, or with a high byte set.
-fn bad_number(random: &mut Random, limit: usize, was: u16) -> u16 {
-    let any = random.between(limit, 65_535) as u16;
-    let limit = limit as u16;
-    let high_byte = random.between(1, 255) as u16 * 256;
-    match random.below(8) {
+/// A number from the limit to the most: just at the limit, or with a high byte
+/// set.
+fn bad_number(random: &mut Random, limit: usize, most: usize, was: usize) -> u16 {
+    let high_byte = random.between(1, most / 256) * 256;
+    let number = match random.below(7) {
         0 | 1 => limit,
         2 => limit + 1,
-        3 => was | 0x8000,
-        4 => limit.max(was % 256 + high_byte),
-        5 => limit.max(high_byte),
-        6 => 65_535,
-        _ => any,
-    }
+        3 => limit.max(was % 256 + high_byte),
+        4 => limit.max(high_byte),
+        5 => most,
+        _ => random.between(limit, most),
+    };
+    number as u16
 }
 
-/// Gives a CONST, a start or a policy a value that is too large. Another net
-/// first becomes a CONST.
+/// Gives a CONST, a start or a policy a value that is too large, in some draws by
+/// the top bit alone. Another net first becomes a CONST.
 fn put_bad_setting(random: &mut Random, net: &mut Net) {
     let (index, most) = match setting_of(net.kind) {
         Some(setting) => setting,
@@ -86,7 +98,12 @@ fn put_bad_setting(random: &mut Random, net: &mut Net) {
             (0, 1)
         }
     };
-    net.operands[index] = bad_number(random, usize::from(most) + 1, net.operands[index]);
+    let setting = &mut net.operands[index];
+    *setting = if random.chance(1, 4) {
+        *setting | INVERTED
+    } else {
+        bad_number(random, usize::from(most) + 1, 65_535, usize::from(*setting))
+    };
 }
 
 /// Gives an operand that is not listed a value other than 0. A MUX, which has
@@ -97,7 +114,7 @@ fn put_unlisted(random: &mut Random, net: &mut Net) {
     }
     let index = random.between(listed_of(net.kind), 2);
     let any = random.between(1, 65_535) as u16;
-    net.operands[index] = random.pick(&[1, 2, 256, 0x8000, 65_535, any]);
+    net.operands[index] = random.pick(&[1, 2, 256, INVERTED, 65_535, any]);
 }
 
 /// Makes I, R or O wrong, or swaps two of them.

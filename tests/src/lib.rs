@@ -3,6 +3,7 @@
 //! alone.
 
 mod all;
+mod bits;
 pub mod bytes;
 mod call;
 mod calls;
@@ -20,7 +21,7 @@ pub mod faults;
 mod figures;
 mod kinds;
 mod lent;
-mod listed;
+pub mod listed;
 mod making;
 pub mod netlists;
 mod pins;
@@ -30,6 +31,7 @@ mod replay;
 mod tally;
 mod waking;
 
+pub use bits::Bits;
 pub use call::Name;
 pub use calls::{Calls, LIBRARY};
 pub use driving::{run_case, run_family};

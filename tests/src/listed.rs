@@ -1,6 +1,6 @@
 //! The operands that each kind lists: pins, and settings with a largest value.
 
-use tracker::kinds::{AND, CONST, MUX, NOT, OR, OUT, REG, XOR};
+use tracker::kinds::{AND, CONST, INVERTED, MUX, NOT, OR, OUT, REG, XOR};
 
 /// How many operands of a kind are pins. They are the first ones.
 pub fn pins_of(kind: u8) -> usize {
@@ -9,6 +9,19 @@ pub fn pins_of(kind: u8) -> usize {
         AND | OR | XOR => 2,
         MUX => 3,
         _ => 0,
+    }
+}
+
+/// The net that a pin names.
+pub fn net_of(pin: u16) -> usize {
+    usize::from(pin % INVERTED)
+}
+
+/// A pin of this kind, at the net with this number, names a net below this limit.
+pub fn limit_of(kind: u8, number: usize, size: usize) -> usize {
+    match kind {
+        REG => size,
+        _ => number,
     }
 }
 

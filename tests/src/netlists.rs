@@ -24,7 +24,7 @@ pub fn of_kinds(random: &mut Random, kinds: &[u8]) -> Vec<Net> {
         nets.push(draw_net(random, style, *kind, number, kinds.len()));
     }
     if nets.len() > 1 && GROUP_LENGTHS[usize::from(nets[1].kind)] == 2 && random.chance(1, 8) {
-        nets[1] = Net::new(OUT, 0, 1, 0);
+        nets[1] = Net::new(OUT, style.pin_on(random, 0), 1, 0);
     }
     nets
 }

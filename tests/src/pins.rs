@@ -1,8 +1,8 @@
 //! Good operands for a net of a given kind.
 
-use crate::listed::{listed_of, pins_of, setting_of};
+use crate::listed::{pins_of, setting_of};
 use crate::random::Random;
-use tracker::kinds::{OUT, REG};
+use tracker::kinds::{INVERTED, OUT, REG};
 use tracker::Net;
 
 /// How the pins of a netlist are drawn.
@@ -26,6 +26,8 @@ pub struct Style {
     reach: Reach,
     /// So many OUTs in 8 are protected.
     protected: usize,
+    /// So many pins in 8 are inverted.
+    inverted: usize,
 }
 
 impl Style {
@@ -41,6 +43,16 @@ impl Style {
         Style {
             reach: random.pick(&reaches),
             protected: random.pick(&[0, 1, 4, 4, 8, 8]),
+            inverted: random.pick(&[0, 0, 0, 1, 4, 4, 8]),
+        }
+    }
+
+    /// The pin on a net, inverted or not.
+    pub fn pin_on(self, random: &mut Random, net: u16) -> u16 {
+        if random.chance(self.inverted, 8) {
+            net + INVERTED
+        } else {
+            net
         }
     }
 }
@@ -54,9 +66,12 @@ pub fn draw_net(random: &mut Random, style: Style, kind: u8, number: usize, size
             _ => pin(random, style.reach, number),
         } as u16;
     }
-    if pins_of(kind) > 1 && random.chance(1, 12) {
-        let same = net.operands[0];
-        net.operands[..listed_of(kind)].fill(same);
+    let pins = &mut net.operands[..pins_of(kind)];
+    if pins.len() > 1 && random.chance(1, 12) {
+        pins.fill(pins[0]);
+    }
+    for pin in pins {
+        *pin = style.pin_on(random, *pin);
     }
     if let Some((index, most)) = setting_of(kind) {
         net.operands[index] = match kind {

@@ -2,6 +2,7 @@
 
 use std::fmt;
 
+use crate::bits::Bits;
 use crate::call::{Call, Name};
 use crate::coding::{number_of, place_of, CLEAR};
 
@@ -20,6 +21,8 @@ pub struct Tally {
     pub accepted: [u64; 7],
     /// Accepted steps and runs that answered with a flow.
     pub flows: u64,
+    /// Inverted pins, and top bits that were refused.
+    pub bits: Bits,
 }
 
 impl Tally {
@@ -31,6 +34,7 @@ impl Tally {
     pub fn note(&mut self, image: &[u8], call: &Call, answer: u64) {
         let number = number_of(answer) as usize;
         self.numbers[number] += 1;
+        self.bits.note(image, call.name, answer);
         if number == 0 {
             self.note_accepted(call.name, answer);
         } else if let Some(length) = length_of_places(image, call, number) {

@@ -1,10 +1,31 @@
 //! All families of cases, with the compiled library.
 
+use std::mem::take;
 use std::time::Instant;
-use tests::{run_family, Tally, FAMILIES, LIBRARY};
+use tests::{run_family, Bits, Name, Tally, FAMILIES, LIBRARY};
 
 /// Every refusal but 17 must be seen at least so often.
 const LEAST_SEEN: u64 = 10;
+
+/// The calls in which a family must have inverted pins of all kinds, and images
+/// without any of all kinds, and how often.
+#[rustfmt::skip]
+const INVERTED: [(&str, &[Name], u64); 9] = [
+    ("exhaustive", &[Name::Check, Name::PowerUp, Name::Step, Name::Run, Name::Double], 100),
+    ("four_nets", &[Name::Check, Name::Step, Name::Run, Name::Double], 1000),
+    ("good", &[Name::Check, Name::PowerUp, Name::Step, Name::Run, Name::Double], 1000),
+    ("large", &[Name::Check, Name::PowerUp, Name::Step, Name::Run, Name::Double], 50),
+    ("lists", &[Name::Check, Name::PowerUp, Name::Step, Name::Run, Name::Double], 100),
+    ("doubling", &[Name::Check, Name::PowerUp, Name::Step, Name::Run, Name::Double], 1000),
+    ("pairing", &[Name::PowerUp, Name::Step, Name::Run, Name::Double], 1000),
+    ("two_runs", &[Name::PowerUp, Name::Step, Name::Run, Name::Double], 1000),
+    ("steps", &[Name::Step, Name::Run], 1000),
+];
+
+/// The families in which the top bit must be refused on all operands that must not
+/// have it, and accepted on pins of all kinds that are only just good, and how
+/// often.
+const REFUSED: [(&str, u64); 2] = [("operands", 1), ("damaged", 100)];
 
 #[test]
 fn all_families() {
@@ -17,6 +38,9 @@ fn all_families() {
         let calls = tally.calls() - before;
         let time = start.elapsed();
         println!("{:<12}{calls:>9} calls {time:>8.1?}", family.name);
+        let bits = take(&mut tally.bits);
+        enough_inverted(family.name, &bits);
+        enough_refused(family.name, &bits);
     }
     println!("{tally}");
     enough(&tally);
@@ -40,4 +64,35 @@ fn enough(tally: &Tally) {
     let clear = tally.accepted[2] + tally.accepted[3] - tally.flows;
     assert!(tally.flows >= 10_000);
     assert!(clear >= 10_000);
+}
+
+/// Asks that the cases of a family had inverted pins where it must have them.
+fn enough_inverted(family: &str, bits: &Bits) {
+    for (_, names, least) in INVERTED.iter().filter(|(name, _, _)| *name == family) {
+        for name in *names {
+            let (inverted, plain) = (bits.least_inverted(*name), bits.least_plain(*name));
+            println!(
+                "  {name:?}: {inverted} with each pin inverted, {plain} of each kind with none"
+            );
+            assert!(
+                inverted >= *least,
+                "{family}, {name:?}: {inverted} inverted"
+            );
+            assert!(plain >= *least, "{family}, {name:?}: {plain} plain");
+        }
+    }
+}
+
+/// Asks that the families of faults had the bit on pins that are only just good and
+/// on all operands on which it is refused.
+fn enough_refused(family: &str, bits: &Bits) {
+    for (_, least) in REFUSED.iter().filter(|(name, _)| *name == family) {
+        let (highest, refused) = (bits.least_highest(), bits.least_refused());
+        println!("  inverted, only just good {highest}, refused by 5 to 7 {refused:?}");
+        assert!(highest >= *least, "{family}: {highest} only just good");
+        assert!(
+            refused.iter().all(|seen| seen >= least),
+            "{family}: {refused:?}"
+        );
+    }
 }

@@ -25,7 +25,7 @@ pub fn cycles(mut call: Call, z: Sizes) -> First {
                 (_, None) => walk::<true>(image, n, now, &mut buffers),
                 _ => walk::<false>(image, n, now, &mut buffers),
             };
-            let nets = buffers.nets[now].as_ptr();
+            let nets = &buffers.nets[now];
             if seen {
                 first = verdict(image, n, 0, nets).map(|net| (cycle, net));
             }
@@ -43,6 +43,6 @@ pub fn cycles(mut call: Call, z: Sizes) -> First {
 unsafe fn start(image: *const u8, n: usize, state: &[u8], buffers: &mut Buffers) -> bool {
     let nets = &mut buffers.nets[0];
     branches::work_out(image, n, &buffers.row, state, nets);
-    write_outputs(image, n, 0, nets.as_ptr(), buffers.outputs.as_mut_ptr());
+    write_outputs(image, n, 0, nets, buffers.outputs.as_mut_ptr());
     true
 }

@@ -4,7 +4,9 @@
 //! array, the constants are set and the lowest gate is found. In a cycle the
 //! row's and the state's bytes are put at their nets, the gates are settled in
 //! net order, and the verdict, the outputs and the clock go through the lists.
+//! Nets stand with their inverses.
 
+use super::both::Both;
 use super::read::{kind, operand};
 use super::settle::settle_nets;
 use crate::call::{Call, First};
@@ -22,7 +24,7 @@ struct Lists<'a> {
 pub fn cycles(mut call: Call, z: Sizes) -> First {
     let (image, n) = (call.image.as_ptr(), z.nets);
     let mut space = [0u16; MOST_NETS];
-    let mut nets = [0u8; MOST_NETS];
+    let mut nets = Both::new();
     let mut first = None;
     // SAFETY, here and below: the image, the state and the rows have been accepted.
     let lists = unsafe { list_kinds(image, z, &mut space) };
@@ -68,36 +70,37 @@ unsafe fn list_nets(image: *const u8, wanted: u8, list: &mut [u16]) {
 }
 
 /// Sets the constants, and all other nets to 0. The answer is the lowest gate.
-unsafe fn prepare(image: *const u8, n: usize, nets: &mut [u8]) -> usize {
-    for (i, byte) in nets[..n].iter_mut().enumerate() {
-        *byte = u8::from(kind(image, i) == CONST) * operand(image, n, i, 0) as u8;
+unsafe fn prepare(image: *const u8, n: usize, nets: &mut Both) -> usize {
+    for i in 0..n {
+        let byte = u8::from(kind(image, i) == CONST) * operand(image, n, i, 0) as u8;
+        nets.put(i, byte);
     }
     (0..n).find(|i| kind(image, *i) >= NOT).unwrap_or(n)
 }
 
 /// Each listed net takes a byte, in order.
-unsafe fn put_bytes(list: &[u16], bytes: &[u8], nets: &mut [u8]) {
+unsafe fn put_bytes(list: &[u16], bytes: &[u8], nets: &mut Both) {
     for (net, byte) in list.iter().zip(bytes) {
-        *nets.get_unchecked_mut(usize::from(*net)) = *byte;
+        nets.put(usize::from(*net), *byte);
     }
 }
 
 /// The bytes of the listed nets, in order.
-unsafe fn take_bytes(list: &[u16], nets: &[u8], bytes: &mut [u8]) {
+unsafe fn take_bytes(list: &[u16], nets: &Both, bytes: &mut [u8]) {
     for (net, byte) in list.iter().zip(bytes) {
-        *byte = *nets.get_unchecked(usize::from(*net));
+        *byte = nets.read(usize::from(*net));
     }
 }
 
-/// Every listed register takes the byte of its net.
-unsafe fn clock(image: *const u8, n: usize, list: &[u16], nets: &[u8], state: &mut [u8]) {
+/// Every listed register takes the byte that its pin reads.
+unsafe fn clock(image: *const u8, n: usize, list: &[u16], nets: &Both, state: &mut [u8]) {
     for (net, byte) in list.iter().zip(state) {
-        *byte = *nets.get_unchecked(operand(image, n, usize::from(*net), 0));
+        *byte = nets.read(operand(image, n, usize::from(*net), 0));
     }
 }
 
 /// The first of the listed OUTs that is protected and has mark 1.
-unsafe fn verdict(image: *const u8, n: usize, list: &[u16], nets: &[u8]) -> Option<usize> {
+unsafe fn verdict(image: *const u8, n: usize, list: &[u16], nets: &Both) -> Option<usize> {
     let mut nets_listed = list.iter().map(|net| usize::from(*net));
-    nets_listed.find(|i| operand(image, n, *i, 1) == 1 && *nets.get_unchecked(*i) >= 2)
+    nets_listed.find(|i| operand(image, n, *i, 1) == 1 && nets.read(*i) >= 2)
 }

@@ -1,5 +1,7 @@
 //! The forms of an interpreter that reads the image in place each cycle. All
-//! are built for the plain target, without instructions of newer processors.
+//! are built for the plain target, without instructions of newer processors. In
+//! all of them nets stand with their inverses, so that an inverted pin costs no
+//! more than another.
 //!
 //! - match: unchecked reads, a match on the kind, formulas on bits, passes for
 //!   the verdict, the outputs and the clock. It jumps by the kind, which the
@@ -18,6 +20,7 @@
 //! (eight take a little fewer instructions and no less time); and "safe" with
 //! operands that are read byte by byte.
 
+mod both;
 mod branches;
 mod entries;
 mod lists;

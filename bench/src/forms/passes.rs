@@ -1,6 +1,7 @@
 //! Unchecked passes over the nets of one kind, for the forms that need them. Each
 //! starts at a net below which there is none of the kind.
 
+use super::both::Both;
 use super::read::{kind, operand};
 use tracker::kinds::{OUT, REG};
 
@@ -10,9 +11,9 @@ pub unsafe fn lowest(image: *const u8, n: usize, wanted: u8) -> usize {
 }
 
 /// The lowest protected OUT with mark 1.
-pub unsafe fn verdict(image: *const u8, n: usize, from: usize, nets: *const u8) -> Option<usize> {
+pub unsafe fn verdict(image: *const u8, n: usize, from: usize, nets: &Both) -> Option<usize> {
     (from..n)
-        .find(|i| kind(image, *i) == OUT && operand(image, n, *i, 1) == 1 && *nets.add(*i) >= 2)
+        .find(|i| kind(image, *i) == OUT && operand(image, n, *i, 1) == 1 && nets.read(*i) >= 2)
 }
 
 /// The bytes of the OUTs, in net order.
@@ -20,24 +21,24 @@ pub unsafe fn write_outputs(
     image: *const u8,
     n: usize,
     from: usize,
-    nets: *const u8,
+    nets: &Both,
     out: *mut u8,
 ) {
     let mut o = 0;
     for i in from..n {
         if kind(image, i) == OUT {
-            *out.add(o) = *nets.add(i);
+            *out.add(o) = nets.read(i);
             o += 1;
         }
     }
 }
 
-/// Every register takes the byte of its net.
-pub unsafe fn clock(image: *const u8, n: usize, from: usize, nets: *const u8, state: *mut u8) {
+/// Every register takes the byte that its pin reads.
+pub unsafe fn clock(image: *const u8, n: usize, from: usize, nets: &Both, state: *mut u8) {
     let mut j = 0;
     for i in from..n {
         if kind(image, i) == REG {
-            *state.add(j) = *nets.add(operand(image, n, i, 0));
+            *state.add(j) = nets.read(operand(image, n, i, 0));
             j += 1;
         }
     }

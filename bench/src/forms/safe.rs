@@ -2,10 +2,12 @@
 //!
 //! All bytes that a net can take stand in one buffer: the nets of this cycle and
 //! of the one before, the row, and the two constants. A REG reads the nets of
-//! the cycle before, so there is no pass for the clock. The outputs are
+//! the cycle before, so there is no pass for the clock. The inverse of each net
+//! stands as far behind it as the top bit of a pin says. The outputs are
 //! collected in the same walk. The buffer and the table are longer than what is
 //! used of them, so that the compiler sees that no index can reach their end.
 
+use super::both::INVERSES;
 use super::table::WIDE;
 use crate::accepted::accepted;
 use crate::call::{Call, First};
@@ -13,7 +15,8 @@ use crate::plain;
 use tracker::kinds::OUT;
 use tracker::{Image, Sizes, MOST_NETS};
 
-/// The places of the buffer's parts. The nets of even cycles stand at 0.
+/// The places of the buffer's parts. The nets of even cycles stand at 0, and no part
+/// but the inverses reaches `INVERSES`.
 const ODD: usize = MOST_NETS;
 const ROW: usize = 2 * MOST_NETS;
 const CONSTANTS: usize = 3 * MOST_NETS;
@@ -55,6 +58,9 @@ fn start(call: &Call, z: Sizes, bytes: &mut Buffer, out: &mut Outputs) {
     let image = accepted(call.image);
     plain::work_out(image, call.row(z, 0), call.state, nets);
     plain::write_outputs(image, nets, &mut out[..z.outputs]);
+    for i in 0..z.nets {
+        bytes[INVERSES + i] = bytes[i] ^ 1;
+    }
 }
 
 /// Where pin a of a kind is looked for. `counted` is all ones for an INPUT, whose
@@ -96,6 +102,7 @@ fn work_out<const NOW: usize, const BEFORE: usize>(
         let pin_c = usize::from(bytes[NOW + c]);
         let byte = WIDE[((kind * 4 + pin_a) * 4 + pin_b) * 4 + pin_c];
         bytes[NOW + usize::from(i)] = byte;
+        bytes[INVERSES + NOW + usize::from(i)] = byte ^ 1;
         out[usize::from(outputs)] = byte;
         i = i.wrapping_add(1);
         inputs = inputs.wrapping_sub(entry.counted);

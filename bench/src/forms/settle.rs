@@ -1,12 +1,13 @@
 //! The gates of the form "lists", in net order.
 
+use super::both::Both;
 use super::read::{kind, operand};
 use super::table::TABLE;
 use tracker::kinds::NOT;
 
 /// All nets from `from` on, four to a turn. There is no gate and no OUT below it.
 #[inline]
-pub unsafe fn settle_nets(image: *const u8, n: usize, from: usize, nets: &mut [u8]) {
+pub unsafe fn settle_nets(image: *const u8, n: usize, from: usize, nets: &mut Both) {
     let mut i = from;
     while i + 3 < n {
         settle(image, n, i, nets);
@@ -23,11 +24,11 @@ pub unsafe fn settle_nets(image: *const u8, n: usize, from: usize, nets: &mut [u
 
 /// Net i takes its byte where it is a gate or OUT, and keeps its own where not.
 #[inline(always)]
-unsafe fn settle(image: *const u8, n: usize, i: usize, nets: &mut [u8]) {
+unsafe fn settle(image: *const u8, n: usize, i: usize, nets: &mut Both) {
     let kind = kind(image, i);
     if kind >= NOT {
-        let read = |k: usize| usize::from(*nets.get_unchecked(operand(image, n, i, k)));
+        let read = |k: usize| usize::from(nets.read(operand(image, n, i, k)));
         let index = ((usize::from(kind) * 4 + read(0)) * 4 + read(1)) * 4 + read(2);
-        *nets.get_unchecked_mut(i) = *TABLE.get_unchecked(index);
+        nets.put(i, *TABLE.get_unchecked(index));
     }
 }

@@ -4,6 +4,9 @@
 /// kind * 64 + a * 16 + b * 4 + c. Kinds 0 to 2 and OUT pass on pin a.
 pub static TABLE: [u8; 576] = filled();
 
+/// The same codes, each with its inverse behind it.
+pub static PAIRS: [[u8; 2]; 576] = paired();
+
 /// The same codes, and zeros up to the largest index that four bytes can give.
 pub static WIDE: [u8; 255 * 85 + 1] = filled();
 
@@ -17,6 +20,17 @@ const fn filled<const LENGTH: usize>() -> [u8; LENGTH] {
         index += 1;
     }
     table
+}
+
+const fn paired() -> [[u8; 2]; 576] {
+    let table: [u8; 576] = filled();
+    let mut pairs = [[0; 2]; 576];
+    let mut index = 0;
+    while index < 576 {
+        pairs[index] = [table[index], table[index] ^ 1];
+        index += 1;
+    }
+    pairs
 }
 
 /// The byte of a value and a mark, each in the lowest bit.

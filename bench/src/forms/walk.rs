@@ -3,8 +3,10 @@
 //! For each kind an entry says where pin a is looked for: a CONST's in the two
 //! constants, an INPUT's in the row, a REG's in the nets of the cycle before,
 //! every other's in the nets of this cycle. So every net takes the same few
-//! instructions, whatever its kind, and there is no branch to mispredict.
+//! instructions, whatever its kind, and there is no branch to mispredict. Nets
+//! stand with their inverses, those of the cycle before as well.
 
+use super::both::{Both, INVERSES};
 use super::table::TABLE;
 use tracker::{kind_place, operand_place, MOST_NETS};
 
@@ -13,7 +15,7 @@ static CONSTANTS: [u8; 2] = [0, 1];
 /// What a cycle reads and writes beside the image. The nets of even and of odd
 /// cycles stand apart. The other buffers have a byte to spare.
 pub struct Buffers {
-    pub nets: [[u8; MOST_NETS]; 2],
+    pub nets: [Both; 2],
     pub row: [u8; MOST_NETS + 1],
     pub outputs: [u8; MOST_NETS + 1],
     pub policies: [u8; MOST_NETS + 1],
@@ -22,7 +24,7 @@ pub struct Buffers {
 impl Buffers {
     pub fn new() -> Buffers {
         Buffers {
-            nets: [[0; MOST_NETS]; 2],
+            nets: [Both::new(), Both::new()],
             row: [0; MOST_NETS + 1],
             outputs: [0; MOST_NETS + 1],
             policies: [0; MOST_NETS + 1],
@@ -97,7 +99,7 @@ pub unsafe fn walk<const POLICIES: bool>(
 
 impl Places {
     fn new(kinds: *const u8, now: usize, buffers: &mut Buffers) -> Places {
-        let before = buffers.nets[1 - now].as_ptr();
+        let before = buffers.nets[1 - now].as_mut_ptr();
         let nets = buffers.nets[now].as_mut_ptr();
         let entry = |base: *const u8, counted: usize| Entry { base, counted };
         let mut entries = [entry(nets, 0); 9];
@@ -129,6 +131,7 @@ impl Places {
         let index = (kind + pin_a * 4 + pin(b)) * 4 + pin(read(2));
         let byte = *self.table.add(index);
         *self.nets.add(i) = byte;
+        *self.nets.add(INVERSES + i) = byte ^ 1;
         *self.outputs.add(counts.outputs) = byte;
         if POLICIES {
             *self.policies.add(counts.outputs) = b as u8;

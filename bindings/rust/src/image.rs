@@ -59,7 +59,8 @@ impl<'a> Image<'a> {
         self.kinds
     }
 
-    /// An operand of a net: 0 for a, 1 for b and 2 for c.
+    /// An operand of a net: 0 for a, 1 for b and 2 for c. A pin is given with its
+    /// top bit, [`INVERTED`](crate::kinds::INVERTED).
     ///
     /// # Panics
     ///

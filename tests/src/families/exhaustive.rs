@@ -1,7 +1,8 @@
-//! All good netlists of 1, 2 and 3 nets. Each is stepped from all states on all
-//! rows, run, and doubled; before that its figures are asked for.
+//! All good netlists of 1, 2 and 3 nets, with each pin inverted or not. Each is
+//! stepped from all states on all rows, run, and doubled; before that its figures
+//! are asked for.
 
-use crate::all::{all_bytes, chosen};
+use crate::all::{all_bytes, chosen, Pins};
 use crate::call::Call;
 use crate::case::Case;
 use crate::counts::Counts;
@@ -12,14 +13,19 @@ use tracker::{encode, Net};
 
 /// The numbers of netlists of one, two and three nets: for each net as many
 /// factors as there are good nets with its number.
-const ONE: u64 = 6;
-const TWO: u64 = 9 * 16;
-const THREE: u64 = 12 * 19 * 38;
+const ONE: u64 = 9;
+const TWO: u64 = 15 * 41;
+const THREE: u64 = 21 * 47 * 145;
 
 pub const CASES: u64 = ONE + TWO + THREE;
 
+/// From one case to the next the place goes on by so much, so that the first
+/// thousands of cases have nets of all kinds. It has no factor in common with the
+/// number of cases, so that all places are reached.
+const STRIDE: u64 = 10_007;
+
 pub fn run(case: &mut Case) -> Outcome {
-    let nets = netlist(case.seed % CASES);
+    let nets = netlist(case.seed % CASES * STRIDE % CASES);
     let counts = Counts::of(&nets);
     let image = encode(&nets);
     case.compare(&image, &mut Call::check())?;
@@ -42,7 +48,7 @@ fn netlist(place: u64) -> Vec<Net> {
     let mut place = place;
     for (size, ways) in [(1, ONE), (2, TWO), (3, THREE)] {
         if place < ways {
-            return chosen(place, ways, size, size);
+            return chosen(Pins::Both, place, ways, size, size);
         }
         place -= ways;
     }

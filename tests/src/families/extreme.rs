@@ -7,13 +7,13 @@ use crate::counts::Counts;
 use crate::drawing;
 use crate::failure::Outcome;
 use crate::netlists;
-use tracker::kinds::{CONST, INPUT, NOT, OUT, REG};
+use tracker::kinds::{CONST, INPUT, INVERTED, NOT, OUT, REG};
 use tracker::{encode, Net, MOST_CYCLES, MOST_NETS};
 
 /// The number behind the last net of the largest netlist.
 const END: u16 = MOST_NETS as u16;
 
-pub const CASES: u64 = 8;
+pub const CASES: u64 = 9;
 
 pub fn run(case: &mut Case) -> Outcome {
     let nets = netlist(case);
@@ -48,15 +48,13 @@ fn netlist(case: &mut Case) -> Vec<Net> {
             nets[MOST_NETS - 1] = Net::new(OUT, 0, 1, 0);
             nets
         }
-        // A ring of 8,192 registers, each of which takes the next one's byte.
-        2 => {
-            let next = |number| Net::new(REG, (number + 1) % END, number % 3, 0);
-            (0..END).map(next).collect()
-        }
+        // A ring of registers, whose pins are plain or inverted.
+        2 => ring(0),
+        3 => ring(INVERTED),
         // Neither inputs nor registers nor outputs.
-        3 => vec![Net::new(CONST, 1, 0, 0); MOST_NETS],
+        4 => vec![Net::new(CONST, 1, 0, 0); MOST_NETS],
         // A chain of NOTs behind an input, and a protected output at its end.
-        4 => {
+        5 => {
             let mut nets = vec![Net::new(INPUT, 0, 0, 0)];
             nets.extend((1..END - 1).map(|number| Net::new(NOT, number - 1, 0, 0)));
             nets.push(Net::new(OUT, END - 2, 1, 0));
@@ -64,7 +62,7 @@ fn netlist(case: &mut Case) -> Vec<Net> {
         }
         // A chain of registers behind an input. What is marked there reaches
         // the protected output after 3,000 cycles.
-        5 => {
+        6 => {
             let mut nets = vec![Net::new(INPUT, 0, 0, 0)];
             nets.extend((1..3001).map(|number| Net::new(REG, number - 1, 0, 0)));
             nets.push(Net::new(OUT, 3000, 1, 0));
@@ -72,4 +70,11 @@ fn netlist(case: &mut Case) -> Vec<Net> {
         }
         _ => netlists::of_size(&mut case.random, MOST_NETS),
     }
+}
+
+/// A ring of 8,192 registers. Each takes the byte of the next one, as its pin with
+/// this top bit reads it.
+fn ring(top: u16) -> Vec<Net> {
+    let next = |number| Net::new(REG, (number + 1) % END + top, number % 3, 0);
+    (0..END).map(next).collect()
 }

@@ -9,6 +9,7 @@ use crate::drawing;
 use crate::failure::Outcome;
 use crate::netlists;
 use crate::random::Random;
+use tracker::kinds::INVERTED;
 use tracker::{encode, encode_with, Net, Sizes};
 
 pub fn run(case: &mut Case) -> Outcome {
@@ -82,5 +83,7 @@ fn likely_kind(random: &mut Random) -> u8 {
 
 fn likely_operand(random: &mut Random) -> u16 {
     let low = random.pick(&[0, 0, 0, 0, 1, 1, 2, 3]);
-    low + 256 * u16::from(random.chance(1, 60))
+    let high = 256 * u16::from(random.chance(1, 60));
+    let top = INVERTED * u16::from(random.chance(1, 12));
+    low + high + top
 }

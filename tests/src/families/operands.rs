@@ -2,10 +2,11 @@
 //! mix of some telling values. Each time the image is checked, and its figures are
 //! asked for.
 
-use crate::all::all_nets;
+use crate::all::{all_nets, Pins};
 use crate::call::Call;
 use crate::case::Case;
 use crate::failure::Outcome;
+use tracker::kinds::INVERTED;
 use tracker::{encode_with, Net, Sizes};
 
 /// The places of the net: net 0 of 1, nets 0 and 1 of 2, nets 0 to 2 of 3.
@@ -13,7 +14,13 @@ const PLACES: [(usize, usize); 6] = [(0, 1), (0, 2), (1, 2), (0, 3), (1, 3), (2,
 
 const KINDS: [u8; 12] = [0, 1, 2, 3, 4, 5, 6, 7, 8, 9, 136, 255];
 
-const VALUES: [u16; 10] = [0, 1, 2, 3, 4, 255, 256, 257, 8192, 65_535];
+/// For each place these have the limit of its pins and the number just below it,
+/// if there is one, both with and without the top bit.
+#[rustfmt::skip]
+const VALUES: [u16; 16] = [
+    0, 1, 2, 3, 4, 255, 256, 257, 8192, 32_767,
+    INVERTED, INVERTED + 1, INVERTED + 2, INVERTED + 3, INVERTED + 256, INVERTED + 32_767,
+];
 
 pub const CASES: u64 = (PLACES.len() * KINDS.len()) as u64;
 
@@ -22,7 +29,7 @@ pub fn run(case: &mut Case) -> Outcome {
     let kind = KINDS[case.seed as usize % KINDS.len()];
     let mut nets = Vec::new();
     for other in 0..size {
-        nets.push(case.random.pick(&all_nets(other, size)));
+        nets.push(case.random.pick(&all_nets(Pins::Both, other, size)));
     }
     for a in VALUES {
         for b in VALUES {

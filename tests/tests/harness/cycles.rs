@@ -1,9 +1,11 @@
 //! Stand-ins that get the cycles wrong: the clock, or what a run leaves.
 
 use crate::parts::{bytes, bytes_mut, read};
+use reference::not_byte;
 use tests::coding::{number_of, CLEAR};
+use tests::listed::net_of;
 use tests::{Calls, LIBRARY};
-use tracker::kinds::REG;
+use tracker::kinds::{INVERTED, REG};
 
 /// Clocks the registers one after another, so that one sees another's new byte.
 pub const CLOCKED_IN_TURN: Calls = Calls {
@@ -24,7 +26,9 @@ unsafe extern "C" fn step_clocked_in_turn(
     let mut seen = bytes(nets, nl).to_vec();
     let registers = (0..nl).filter(|net| image.kinds()[*net] == REG);
     for (index, net) in registers.enumerate() {
-        seen[net] = seen[usize::from(image.operand(net, 0))];
+        let pin = image.operand(net, 0);
+        let byte = seen[net_of(pin)];
+        seen[net] = if pin >= INVERTED { not_byte(byte) } else { byte };
         state[index] = seen[net];
     }
     answer

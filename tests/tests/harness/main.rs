@@ -1,8 +1,11 @@
 //! The harness itself: it must notice each of a number of broken libraries, and
 //! its report must name the case.
 
+mod altered;
 mod answers;
+mod by_rule;
 mod cycles;
+mod doubled_bits;
 mod doubling;
 mod figures;
 mod lent_bytes;
@@ -66,7 +69,7 @@ fn which_family_catches_which() {
             let has_to = stand_in.caught_by.contains(&family.name);
             let cases = match family.name {
                 _ if has_to => MOST_CASES,
-                "large" => 10,
+                "large" | "operands" => 10,
                 "extreme" => 0,
                 _ => FEW_CASES,
             };

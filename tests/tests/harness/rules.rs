@@ -1,17 +1,77 @@
-//! Stand-ins with a wrong gate rule, in steps and in runs alike.
+//! Stand-ins with a wrong rule of a gate or of an inverted pin.
 
-use crate::parts::{bytes, bytes_mut, read};
+use crate::by_rule::by_rule;
 use reference::{and_byte, mux_byte, not_byte, or_byte, xor_byte};
-use tests::coding::{number_of, CLEAR};
-use tests::{Calls, LIBRARY};
-use tracker::kinds::{AND, CONST, INPUT, MUX, NOT, OR, OUT, REG, XOR};
-use tracker::Image;
+use tests::listed::{net_of, pins_of};
+use tests::Calls;
+use tracker::kinds::{AND, INVERTED, MUX, NOT, OR, OUT, REG, XOR};
 
-/// A rule gives the byte of a gate or an OUT: its kind, its three operands, and
-/// the bytes of the nets that they name.
-type Rule = fn(u8, [usize; 3], [u8; 3]) -> u8;
+/// The rules by which cycles are worked out.
+pub struct Rules {
+    /// The byte of a gate or an OUT, by its kind, its operands, and the bytes that
+    /// its pins read.
+    pub gate: fn(u8, [u16; 3], [u8; 3]) -> u8,
+    /// The byte that an inverted pin reads, by the kind that it belongs to, its
+    /// index, and the byte of its net.
+    pub inverted: fn(u8, usize, u8) -> u8,
+}
 
-fn right(kind: u8, _: [usize; 3], [a, b, c]: [u8; 3]) -> u8 {
+const RIGHT: Rules = Rules {
+    gate: right,
+    inverted: |_, _, byte| not_byte(byte),
+};
+
+/// All rules, each with one that is wrong.
+#[rustfmt::skip]
+pub const RULES: [Rules; 9] = [
+    Rules { gate: any_pin_marks, ..RIGHT },
+    Rules { gate: chosen_pin_marks, ..RIGHT },
+    Rules { gate: own_xor_is_clear, ..RIGHT },
+    Rules { gate: plain_marks, ..RIGHT },
+    Rules { inverted: |_, _, byte| byte ^ 3, ..RIGHT },
+    Rules { inverted: |_, _, byte| not_byte(byte) % 2, ..RIGHT },
+    Rules { inverted: |kind, _, byte| plain_if(kind == REG, byte), ..RIGHT },
+    Rules { inverted: |kind, _, byte| plain_if(kind == OUT, byte), ..RIGHT },
+    Rules { inverted: |kind, index, byte| plain_if(kind == MUX && index == 2, byte), ..RIGHT },
+];
+
+/// Marks a gate whenever a pin is marked.
+pub const ANY_PIN_MARKS: Calls = by_rule::<0>();
+
+/// Takes the mark of the pin that a MUX chooses, also where c is marked.
+pub const CHOSEN_PIN_MARKS: Calls = by_rule::<1>();
+
+/// Clears the mark of the XOR of a net with itself.
+pub const OWN_XOR_IS_CLEAR: Calls = by_rule::<2>();
+
+/// Works out marks from the values of the nets, as if no pin were inverted.
+pub const PLAIN_MARKS: Calls = by_rule::<3>();
+
+/// Inverts the mark together with the value.
+pub const INVERTS_THE_MARK: Calls = by_rule::<4>();
+
+/// Drops the mark at an inverted pin.
+pub const INVERTED_IS_TRUSTED: Calls = by_rule::<5>();
+
+/// Has a register take the byte of its net as it is.
+pub const PLAIN_CLOCK: Calls = by_rule::<6>();
+
+/// Has an OUT show the byte of its net as it is.
+pub const PLAIN_OUT: Calls = by_rule::<7>();
+
+/// Has a MUX choose by the byte of net c as it is.
+pub const PLAIN_SELECT: Calls = by_rule::<8>();
+
+/// What an inverted pin reads that is not inverted in some cases.
+fn plain_if(is_plain: bool, byte: u8) -> u8 {
+    if is_plain {
+        byte
+    } else {
+        not_byte(byte)
+    }
+}
+
+fn right(kind: u8, _: [u16; 3], [a, b, c]: [u8; 3]) -> u8 {
     match kind {
         NOT => not_byte(a),
         AND => and_byte(a, b),
@@ -22,109 +82,28 @@ fn right(kind: u8, _: [usize; 3], [a, b, c]: [u8; 3]) -> u8 {
     }
 }
 
-fn any_pin_marks(kind: u8, pins: [usize; 3], bytes: [u8; 3]) -> u8 {
-    let count = [0, 0, 0, 1, 2, 2, 2, 3, 1][usize::from(kind)];
-    let marked = bytes[..count].iter().any(|byte| *byte >= 2);
-    right(kind, pins, bytes) % 2 + 2 * u8::from(marked)
+fn any_pin_marks(kind: u8, operands: [u16; 3], bytes: [u8; 3]) -> u8 {
+    let marked = bytes[..pins_of(kind)].iter().any(|byte| *byte >= 2);
+    right(kind, operands, bytes) % 2 + 2 * u8::from(marked)
 }
 
-fn chosen_pin_marks(kind: u8, pins: [usize; 3], [a, b, c]: [u8; 3]) -> u8 {
+fn chosen_pin_marks(kind: u8, operands: [u16; 3], [a, b, c]: [u8; 3]) -> u8 {
     match kind {
         MUX => mux_byte(a, b, c % 2),
-        _ => right(kind, pins, [a, b, c]),
+        _ => right(kind, operands, [a, b, c]),
     }
 }
 
-fn own_xor_is_clear(kind: u8, pins: [usize; 3], bytes: [u8; 3]) -> u8 {
+fn own_xor_is_clear(kind: u8, operands: [u16; 3], bytes: [u8; 3]) -> u8 {
     match kind {
-        XOR if pins[0] == pins[1] => 0,
-        _ => right(kind, pins, bytes),
+        XOR if net_of(operands[0]) == net_of(operands[1]) => right(kind, operands, bytes) % 2,
+        _ => right(kind, operands, bytes),
     }
 }
 
-const RULES: [Rule; 3] = [any_pin_marks, chosen_pin_marks, own_xor_is_clear];
-
-/// Marks a gate whenever a pin is marked.
-pub const ANY_PIN_MARKS: Calls = by_rule::<0>();
-
-/// Takes the mark of the pin that a MUX chooses, also where c is marked.
-pub const CHOSEN_PIN_MARKS: Calls = by_rule::<1>();
-
-/// Clears the XOR of a net with itself.
-pub const OWN_XOR_IS_CLEAR: Calls = by_rule::<2>();
-
-const fn by_rule<const RULE: usize>() -> Calls {
-    Calls {
-        step: step::<RULE>,
-        run: run::<RULE>,
-        ..LIBRARY
-    }
-}
-
-/// One cycle by a rule: the nets and the verdict as an answer. The state is
-/// clocked.
-fn cycle(rule: Rule, image: Image, state: &mut [u8], row: &[u8]) -> (Vec<u8>, u64) {
-    let mut nets = vec![0; image.sizes().nets];
-    let (mut inputs, mut registers) = (row.iter(), state.iter());
-    let mut verdict = CLEAR;
-    for (number, net) in image.nets().enumerate() {
-        let pins = net.operands.map(usize::from);
-        nets[number] = match net.kind {
-            CONST => pins[0] as u8,
-            INPUT => *inputs.next().unwrap(),
-            REG => *registers.next().unwrap(),
-            kind => rule(kind, pins, pins.map(|pin| nets[pin])),
-        };
-        if net.kind == OUT && pins[1] == 1 && nets[number] >= 2 && verdict == CLEAR {
-            verdict = number as u64;
-        }
-    }
-    let registers = image.nets().filter(|net| net.kind == REG);
-    for (byte, register) in state.iter_mut().zip(registers) {
-        *byte = nets[usize::from(register.operands[0])];
-    }
-    (nets, verdict)
-}
-
-#[rustfmt::skip]
-unsafe extern "C" fn step<const RULE: usize>(
-    image: *const u8, il: usize, state: *mut u8, sl: usize,
-    row: *const u8, rl: usize, nets: *mut u8, nl: usize,
-) -> u64 {
-    let mut own = bytes(state, sl).to_vec();
-    let answer = (LIBRARY.step)(image, il, state, sl, row, rl, nets, nl);
-    if number_of(answer) != 0 {
-        return answer;
-    }
-    let (filled, verdict) = cycle(RULES[RULE], read(image, il), &mut own, bytes(row, rl));
-    bytes_mut(state, sl).copy_from_slice(&own);
-    bytes_mut(nets, nl).copy_from_slice(&filled);
-    verdict
-}
-
-#[rustfmt::skip]
-unsafe extern "C" fn run<const RULE: usize>(
-    image: *const u8, il: usize, k: usize, state: *mut u8, sl: usize,
-    rows: *const u8, rl: usize, outputs: *mut u8, ol: usize,
-) -> u64 {
-    let mut own = bytes(state, sl).to_vec();
-    let answer = (LIBRARY.run)(image, il, k, state, sl, rows, rl, outputs, ol);
-    if number_of(answer) != 0 {
-        return answer;
-    }
-    let (image, rows) = (read(image, il), bytes(rows, rl));
-    let inputs = image.sizes().inputs;
-    let (mut filled, mut first) = (Vec::new(), k as u64 * 65_536 + CLEAR);
-    for number in 0..k {
-        let row = &rows[number * inputs..(number + 1) * inputs];
-        let (nets, verdict) = cycle(RULES[RULE], image, &mut own, row);
-        let bytes = image.kinds().iter().zip(nets);
-        filled.extend(bytes.filter(|(kind, _)| **kind == OUT).map(|(_, byte)| byte));
-        if verdict != CLEAR && first % 65_536 == CLEAR {
-            first = number as u64 * 65_536 + verdict;
-        }
-    }
-    bytes_mut(state, sl).copy_from_slice(&own);
-    bytes_mut(outputs, ol).copy_from_slice(&filled);
-    first
+fn plain_marks(kind: u8, operands: [u16; 3], bytes: [u8; 3]) -> u8 {
+    let inverted = operands.map(|operand| u8::from(operand >= INVERTED));
+    let plain = [0, 1, 2].map(|index| bytes[index] ^ inverted[index]);
+    let mark = right(kind, operands, plain) / 2;
+    right(kind, operands, bytes) % 2 + 2 * mark
 }

@@ -1,7 +1,8 @@
 //! All broken stand-ins, with the families that have to catch them and what
 //! their reports have to show.
 
-use crate::{answers, cycles, doubling, figures, lent_bytes, order, rules, waking};
+use crate::{altered, answers, cycles, doubled_bits, doubling, figures};
+use crate::{lent_bytes, order, rules, waking};
 use tests::{Calls, Failure, Spot};
 
 pub struct StandIn {
@@ -76,7 +77,7 @@ fn image(failure: &Failure) -> bool {
 }
 
 #[rustfmt::skip]
-pub const STAND_INS: [StandIn; 39] = [
+pub const STAND_INS: [StandIn; 54] = [
     stand_in("accepts wrong counts", answers::ACCEPTS_WRONG_COUNTS,
         &["operands", "damaged", "noise", "lists"], answer),
     stand_in("answers with the next net", answers::NEXT_PLACE,
@@ -124,6 +125,36 @@ pub const STAND_INS: [StandIn; 39] = [
         &["good", "large", "lists", "pairing", "two_runs"], anything),
     stand_in("clears XOR of a net with itself", rules::OWN_XOR_IS_CLEAR,
         &["exhaustive", "good", "large", "lists", "pairing"], anything),
+    stand_in("inverts the mark too", rules::INVERTS_THE_MARK,
+        &["exhaustive", "good", "large", "lists", "doubling", "pairing", "two_runs"], anything),
+    stand_in("drops the mark at an inverted pin", rules::INVERTED_IS_TRUSTED,
+        &["exhaustive", "good", "large", "lists", "doubling", "pairing", "two_runs"], anything),
+    stand_in("marks as if no pin were inverted", rules::PLAIN_MARKS,
+        &["exhaustive", "good", "large", "lists", "doubling", "pairing", "two_runs"], anything),
+    stand_in("does not invert at the clock", rules::PLAIN_CLOCK,
+        &["exhaustive", "good", "large", "lists", "doubling"], anything),
+    stand_in("does not invert at an OUT", rules::PLAIN_OUT,
+        &["exhaustive", "good", "large", "lists", "doubling"], anything),
+    stand_in("does not invert a MUX's c", rules::PLAIN_SELECT,
+        &["exhaustive", "good", "large", "lists", "doubling"], anything),
+    stand_in("inverts no pin", altered::PLAIN,
+        &["exhaustive", "good", "large", "lists", "doubling"], anything),
+    stand_in("tries 5 on the whole number", altered::WHOLE_NUMBER,
+        &["exhaustive", "operands", "good", "damaged", "lists", "pairing", "two_runs", "steps"],
+        answer),
+    stand_in("tries 5 on 13 bits", altered::THIRTEEN_BITS, &["operands", "damaged"], answer),
+    stand_in("ignores the bit of a setting", altered::SETTING_WITHOUT_BIT,
+        &["operands", "damaged", "lists"], answer),
+    stand_in("ignores the bit of an unlisted operand", altered::UNLISTED_WITHOUT_BIT,
+        &["operands", "damaged", "lists"], answer),
+    stand_in("keeps the bit on mark pins", doubled_bits::KEPT_ON_MARKS,
+        &["exhaustive", "good", "lists", "doubling", "pairing", "two_runs"], lent_byte),
+    stand_in("drops the bit on value pins", doubled_bits::DROPPED_ON_VALUES,
+        &["exhaustive", "good", "lists", "doubling", "pairing"], lent_byte),
+    stand_in("drops the bit on inner value pins", doubled_bits::DROPPED_ON_INNER,
+        &["exhaustive", "good", "lists", "doubling", "pairing", "two_runs"], lent_byte),
+    stand_in("inverts an OR's inner pins", doubled_bits::OR_INVERTED_TWICE,
+        &["exhaustive", "good", "lists", "doubling", "pairing", "two_runs"], lent_byte),
     stand_in("trusts a register without a start", waking::WAKES_TRUSTED,
         &["exhaustive", "good", "large", "lists", "pairing", "two_runs"], lent_byte),
     stand_in("wakes a register without a start as 1", waking::WAKES_AS_1,

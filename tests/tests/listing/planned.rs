@@ -8,7 +8,7 @@ use crate::counter::counter;
 use crate::program::{list, Pieces};
 use tests::bytes::tracked;
 use tests::random::Random;
-use tracker::kinds::{CONST, INPUT, OUT, REG};
+use tracker::kinds::{AND, CONST, INPUT, INVERTED, OUT, REG};
 use tracker::{encode, operand_place, Net, MOST_NETS};
 
 const PIECES: [usize; 4] = [1, 7, 4095, 1 << 20];
@@ -37,6 +37,34 @@ fn the_counter_without_a_start() {
     let mut image = counter();
     image[operand_place(6, 1, 1)] = 2;
     let lines = "0 2 flow 5\n1 3 flow 5\n2 2 flow 5\n3 0 clear\nend 4\n";
+    prints(&image, lines);
+}
+
+/// Inverted pins stand for its two NOTs, and its OUT is net 3. The other lines are
+/// the same.
+#[test]
+fn the_counter_with_inverted_pins() {
+    let image = encode(&[
+        Net::new(INPUT, 0, 0, 0),
+        Net::new(REG, 2, 0, 0),
+        Net::new(AND, INVERTED + 1, INVERTED, 0),
+        Net::new(OUT, 1, 1, 0),
+    ]);
+    let lines = "0 0 clear\n1 3 flow 3\n2 2 flow 3\n3 0 clear\nend 4\n";
+    prints(&image, lines);
+}
+
+/// A value that is inverted at the clock and again at the OUT. The register wakes
+/// as a trusted 0, which the OUT shows as 1. The rows are 2, 0, 1 and 0: the
+/// register takes 3, 1, 0 and 1, and the OUT shows 2, 0 and 1 in the cycles 1 to 3.
+#[test]
+fn inverted_at_the_clock_and_at_the_out() {
+    let image = encode(&[
+        Net::new(INPUT, 0, 0, 0),
+        Net::new(REG, INVERTED, 0, 0),
+        Net::new(OUT, INVERTED + 1, 1, 0),
+    ]);
+    let lines = "0 1 clear\n1 2 flow 2\n2 0 clear\n3 1 clear\nend 4\n";
     prints(&image, lines);
 }
 

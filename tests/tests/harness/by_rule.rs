@@ -1,0 +1,97 @@
+//! Stand-ins that work out their cycles by wrong rules, in steps and in runs alike.
+
+use crate::parts::{bytes, bytes_mut, read};
+use crate::rules::{Rules, RULES};
+use tests::coding::{number_of, CLEAR};
+use tests::listed::net_of;
+use tests::{Calls, LIBRARY};
+use tracker::kinds::{CONST, INPUT, INVERTED, OUT, REG};
+use tracker::Image;
+
+/// The stand-in with the rules of this index.
+pub const fn by_rule<const INDEX: usize>() -> Calls {
+    Calls {
+        step: step::<INDEX>,
+        run: run::<INDEX>,
+        ..LIBRARY
+    }
+}
+
+/// What a pin of a net of this kind reads, by the index of the pin.
+fn pin_byte(rules: &Rules, kind: u8, index: usize, pin: u16, nets: &[u8]) -> u8 {
+    let byte = nets[net_of(pin)];
+    if pin >= INVERTED {
+        (rules.inverted)(kind, index, byte)
+    } else {
+        byte
+    }
+}
+
+/// One cycle by rules: the nets and the verdict as an answer. The state is
+/// clocked.
+fn cycle(rules: &Rules, image: Image, state: &mut [u8], row: &[u8]) -> (Vec<u8>, u64) {
+    let mut nets = vec![0; image.sizes().nets];
+    let (mut inputs, mut registers) = (row.iter(), state.iter());
+    let mut verdict = CLEAR;
+    for (number, net) in image.nets().enumerate() {
+        let [a, b, c] = net.operands;
+        let pin = |index, pin| pin_byte(rules, net.kind, index, pin, &nets);
+        nets[number] = match net.kind {
+            CONST => a as u8,
+            INPUT => *inputs.next().unwrap(),
+            REG => *registers.next().unwrap(),
+            kind => (rules.gate)(kind, net.operands, [pin(0, a), pin(1, b), pin(2, c)]),
+        };
+        if net.kind == OUT && b == 1 && nets[number] >= 2 && verdict == CLEAR {
+            verdict = number as u64;
+        }
+    }
+    let registers = image.nets().filter(|net| net.kind == REG);
+    for (byte, register) in state.iter_mut().zip(registers) {
+        *byte = pin_byte(rules, REG, 0, register.operands[0], &nets);
+    }
+    (nets, verdict)
+}
+
+#[rustfmt::skip]
+unsafe extern "C" fn step<const INDEX: usize>(
+    image: *const u8, il: usize, state: *mut u8, sl: usize,
+    row: *const u8, rl: usize, nets: *mut u8, nl: usize,
+) -> u64 {
+    let mut own = bytes(state, sl).to_vec();
+    let answer = (LIBRARY.step)(image, il, state, sl, row, rl, nets, nl);
+    if number_of(answer) != 0 {
+        return answer;
+    }
+    let (filled, verdict) = cycle(&RULES[INDEX], read(image, il), &mut own, bytes(row, rl));
+    bytes_mut(state, sl).copy_from_slice(&own);
+    bytes_mut(nets, nl).copy_from_slice(&filled);
+    verdict
+}
+
+#[rustfmt::skip]
+unsafe extern "C" fn run<const INDEX: usize>(
+    image: *const u8, il: usize, k: usize, state: *mut u8, sl: usize,
+    rows: *const u8, rl: usize, outputs: *mut u8, ol: usize,
+) -> u64 {
+    let mut own = bytes(state, sl).to_vec();
+    let answer = (LIBRARY.run)(image, il, k, state, sl, rows, rl, outputs, ol);
+    if number_of(answer) != 0 {
+        return answer;
+    }
+    let (image, rows) = (read(image, il), bytes(rows, rl));
+    let inputs = image.sizes().inputs;
+    let (mut filled, mut first) = (Vec::new(), k as u64 * 65_536 + CLEAR);
+    for number in 0..k {
+        let row = &rows[number * inputs..(number + 1) * inputs];
+        let (nets, verdict) = cycle(&RULES[INDEX], image, &mut own, row);
+        let bytes = image.kinds().iter().zip(nets);
+        filled.extend(bytes.filter(|(kind, _)| **kind == OUT).map(|(_, byte)| byte));
+        if verdict != CLEAR && first % 65_536 == CLEAR {
+            first = number as u64 * 65_536 + verdict;
+        }
+    }
+    bytes_mut(state, sl).copy_from_slice(&own);
+    bytes_mut(outputs, ol).copy_from_slice(&filled);
+    first
+}
