@@ -22,6 +22,7 @@ pub fn one_run(case: usize, peer: &str, k: usize) {
     let mut state = bytes.start.clone();
     let mut outputs = bytes.outputs(MANY);
     let answer = bytes.run(peer, k, &mut state, &mut outputs);
+    assert!(answer >> 32 == 0, "the run was turned back");
     black_box((answer, &state, &outputs));
 }
 

@@ -12,9 +12,10 @@ use Rattle.gates.specs.Relations.{AgreeByte, BelowByte, equal, zero-marked}
 use Rattle.gates.specs.Meaning.{Changed}
 use Rattle.image.specs.declared.image.Net.{Net}
 use Rattle.image.specs.Image.{sizesOf, netsOf, count}
+use Rattle.image.specs.Pins.{pinNet}
 use Rattle.refusals.specs.declared.answer.Refusal.{Refusal}
 use Rattle.checking.specs.Check.{checkRefusal}
-use Rattle.cycle.specs.Cycle.{Verdict, clear, flow, outputsFrom, cycleOf}
+use Rattle.cycle.specs.Cycle.{pinByte, Verdict, clear, flow, outputsFrom, cycleOf}
 use Rattle.cycle.specs.Calls.{stateLength, done, powerUpRefusal, powerUpOf, stepOf, stepRefusal, runOf, runRefusal}
 use Rattle.doubled.specs.Doubled.{doubledSize, valueNet, doubledNets}
 use Rattle.figures.specs.Figures.{doubledSizeOf}
@@ -50,6 +51,15 @@ cycle-outputs = promised .terms .outputs
 
 doubled-size : (s : List ℕ) → doubledSize (netsOf s) ≡ valueNet (netsOf s) (sizesOf s .nets)
 doubled-size = promised .terms .size
+
+-- PINS: which net a pin names, and what it reads, without the top bit and with it
+pin-plain : (bs : List ℕ) (j : ℕ) → j < 32768 → (pinNet j ≡ j) × (pinByte gateByte bs j ≡ getD bs j 0)
+pin-plain bs j h = (promised .pins-mean .names j h, promised .pins-mean .reads bs j h)
+
+pin-inverted : (bs : List ℕ) (j : ℕ) → j < 32768 → getD bs j 0 ≤ 3
+    → let x = pinByte gateByte bs (32768 + j) in
+    (pinNet (32768 + j) ≡ j) × (x % 2 ≡ (1 + getD bs j 0) % 2) × (x / 2 ≡ getD bs j 0 / 2) × (x ≡ notByte (getD bs j 0))
+pin-inverted bs j h c = let p = promised .pins-mean in (p .names-inverted j h, p .reads-value bs j h c, p .reads-mark bs j h c, p .as-not bs j h)
 
 sizes-read : (s : List ℕ) → (sizesOf s .nets ≡ twoBytes s 0) × (sizesOf s .inputs ≡ twoBytes s 2) × (sizesOf s .registers ≡ twoBytes s 4) × (sizesOf s .outputs ≡ twoBytes s 6)
 sizes-read s = let r = promised .image-read s in (r .nets, r .inputs, r .registers, r .outputs)
@@ -124,7 +134,7 @@ module _ (s st : List ℕ) (h : checkRefusal s ≡ none) (l : length st ≡ stat
   net-has row m = promised .net-bytes s row st h m l .net-byte
 
   register-takes : (row : List ℕ) → length row ≡ sizesOf s .inputs → (i : ℕ) → i < sizesOf s .nets → netOf s i .kind ≡ REG
-      → let c = cycleOf (netsOf s) row st in Counted REG s i (c .state) (getD (c .bytes) (netOf s i .a) 0)
+      → let c = cycleOf (netsOf s) row st in Counted REG s i (c .state) (pinByte gateByte (c .bytes) (netOf s i .a))
   register-takes row m = promised .net-bytes s row st h m l .clock
 
   only-bytes : (row bs : List ℕ) → length bs ≡ sizesOf s .nets

@@ -11,10 +11,10 @@ use Rattle.checking.specs.Check.{checkRefusal}
 use Rattle.cycle.specs.Cycle.{FirstFlow}
 use Rattle.cycle.specs.Calls.{stateLength, done, powerUpOf, Ran, runOf}
 use Rattle.groups.specs.Groups.{groupLength, split}
-use Rattle.doubled.specs.Doubled.{groupAt, doubledSize, valueNet, markNet, doubledNets}
+use Rattle.doubled.specs.Doubled.{valuePin, markPin, groupAt, doubledSize, valueNet, markNet, doubledNets}
 use Rattle.doubling.specs.Doubling.{doubledImage, doubleRefusal, doubleOf}
 use Rattle.claims.specs.NetBytes.{netOf}
-use Rattle.claims.specs.Groups.{oneOfEach, theirGroups}
+use Rattle.claims.specs.Groups.{oneOfEach, theirGroups, invertedOfEach, invertedGroups}
 use Rattle.claims.specs.History.{Call, step, accepted, history, cyclesIn, AllFinished}
 use Rattle.claims.specs.Pairing.{Again, step-again, Shows}
 use Rattle.claims.specs.InBytes.{fromPowerUp, InTwo, ShowsInTwo}
@@ -66,22 +66,27 @@ free-outs : (s : List ℕ) (j : ℕ) → netOf (doubledImage s) j .kind ≡ OUT 
 free-outs s = promised .doubled-unseen s .outs
 
 register-pair : (s : List ℕ) (i : ℕ) → i < sizesOf s .nets → netOf s i .kind ≡ REG
-    → (netOf (doubledImage s) (valueNet (netsOf s) i) ≡ net REG (valueNet (netsOf s) (netOf s i .a)) (netOf s i .b) 0)
-    × ((netOf s i .b ≡ 2 → ⊥) → netOf (doubledImage s) (markNet (netsOf s) i) ≡ net REG (markNet (netsOf s) (netOf s i .a)) 0 0)
-    × (netOf s i .b ≡ 2 → netOf (doubledImage s) (markNet (netsOf s) i) ≡ net REG (markNet (netsOf s) (netOf s i .a)) 1 0)
+    → (netOf (doubledImage s) (valueNet (netsOf s) i) ≡ net REG (valuePin (netsOf s) (netOf s i .a)) (netOf s i .b) 0)
+    × ((netOf s i .b ≡ 2 → ⊥) → netOf (doubledImage s) (markNet (netsOf s) i) ≡ net REG (markPin (netsOf s) (netOf s i .a)) 0 0)
+    × (netOf s i .b ≡ 2 → netOf (doubledImage s) (markNet (netsOf s) i) ≡ net REG (markPin (netsOf s) (netOf s i .a)) 1 0)
 register-pair s i l k = let u = promised .doubled-unseen s in (u .values i l k, u .marks i l k, u .unknown-marks i l k)
 
-each-group : (doubledNets oneOfEach ≡ theirGroups) × (doubledSize oneOfEach ≡ 33)
-each-group = (promised .groups .nets, promised .groups .size)
+each-group : (doubledNets oneOfEach ≡ theirGroups) × (doubledSize oneOfEach ≡ 33) × (doubledNets invertedOfEach ≡ invertedGroups)
+each-group = (promised .groups .nets, promised .groups .size, promised .groups .inverted)
+
+-- what a pin becomes, without the top bit and with it
+two-pins : (xs : List Net) (j : ℕ) → j < 32768
+    → (valuePin xs j ≡ valueNet xs j) × (valuePin xs (32768 + j) ≡ 32768 + valueNet xs j) × (markPin xs j ≡ markNet xs j) × (markPin xs (32768 + j) ≡ markNet xs j)
+two-pins xs j h = let p = promised .pins-mean in (p .value-pin xs j h, p .value-inverted xs j h, p .mark-pin xs j h, p .mark-inverted xs j h)
 
 -- the group of any net: two kinds as they stand, and every other by how many nets it has
 module _ (xs : List Net) (i : ℕ) (x : Net) where
-  xor-group : x .kind ≡ 6 → groupAt xs i x ≡ net 6 (valueNet xs (x .a)) (valueNet xs (x .b)) 0 ∷ net 5 (markNet xs (x .a)) (markNet xs (x .b)) 0 ∷ []
+  xor-group : x .kind ≡ 6 → groupAt xs i x ≡ net 6 (valuePin xs (x .a)) (valuePin xs (x .b)) 0 ∷ net 5 (markPin xs (x .a)) (markPin xs (x .b)) 0 ∷ []
   xor-group = promised .groups .each xs i x .xor
 
   reg-group : x .kind ≡ 2
-      → ((x .b ≡ 2 → ⊥) → groupAt xs i x ≡ net 2 (valueNet xs (x .a)) (x .b) 0 ∷ net 2 (markNet xs (x .a)) 0 0 ∷ [])
-      × (x .b ≡ 2 → groupAt xs i x ≡ net 2 (valueNet xs (x .a)) 2 0 ∷ net 2 (markNet xs (x .a)) 1 0 ∷ [])
+      → ((x .b ≡ 2 → ⊥) → groupAt xs i x ≡ net 2 (valuePin xs (x .a)) (x .b) 0 ∷ net 2 (markPin xs (x .a)) 0 0 ∷ [])
+      × (x .b ≡ 2 → groupAt xs i x ≡ net 2 (valuePin xs (x .a)) 2 0 ∷ net 2 (markPin xs (x .a)) 1 0 ∷ [])
   reg-group k = let g = promised .groups .each xs i x in (g .reg k, g .unknown-reg k)
 
   group-sizes :
