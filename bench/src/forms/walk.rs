@@ -131,11 +131,11 @@ impl Places {
         let index = (kind + pin_a * 4 + pin(b)) * 4 + pin(read(2));
         let byte = *self.table.add(index);
         *self.nets.add(i) = byte;
-        *self.nets.add(INVERSES + i) = byte ^ 1;
         *self.outputs.add(counts.outputs) = byte;
         if POLICIES {
             *self.policies.add(counts.outputs) = b as u8;
         }
+        *self.nets.add(INVERSES + i) = byte ^ 1;
         counts.inputs = counts.inputs.wrapping_sub(entry.counted);
         counts.outputs += usize::from(kind > 7 * ENTRY);
     }

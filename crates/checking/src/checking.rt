@@ -5,7 +5,6 @@ use gates::REG;
 use image::net_of;
 use image::sizes_of;
 use net_checking::check_net;
-use net_checking::held_bits;
 use net_checking::limit_places;
 use refusals::Outcome;
 use refusals::refused;
@@ -36,20 +35,19 @@ fn check_nets(s: &[u8], n: usize) -> Outcome
         ≡ (netsRefusal n 0 (netsOf (now (s .entry))) then refuse (wrongCounts (now (s .entry))) 8 0) ⌝ }
 {
     let places = limit_places();
-    let bits = held_bits();
-    let mut limits = [1, 2, 3, 0, n];
+    let mut limits = [65535, 1, 65535, 2, 65535, 3, 32767, 0, 32767, n];
     let mut counts = [0usize; 9];
     let mut i: usize = 0;
     while i < n {
         let x = net_of(s, i);
-        let o = check_net(&places, &bits, &limits, n, i, x);
+        let o = check_net(&places, &limits, n, i, x);
         if let Outcome::Refused(r) = o {
             return Outcome::Refused(r);
         }
         let kind = x.kind as usize;
         counts[kind] += 1;
         i += 1;
-        limits[3] = i;
+        limits[7] = i;
     }
     if wrong_counts(s, &counts) {
         return refused(8, 0);

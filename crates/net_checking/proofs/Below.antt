@@ -16,17 +16,17 @@ use Rattle.image.specs.Pins.{pinNet}
 use Rattle.image.specs.Writing.{Fits}
 use Rattle.image.proofs.PinNets.{net-rest}
 use Rattle.net_checking.specs.NetCheck.{netRefusal}
-use Rattle.net_checking.specs.Limits.{limitsOf, limitPlaces, limitAt, heldBits, heldAt, withinLimits}
+use Rattle.net_checking.specs.Limits.{limitsOf, limitPlaces, limitAt, heldAt, withinLimits}
 use Rattle.net_checking.proofs.Passes.{Passes, is-const, is-input, is-reg, is-not, is-and, is-or, is-xor, is-mux, is-out, no-refusal}
 
 true-is : (b : Bool) → T b → b ≡ true
 true-is true t = refl
 true-is false t = absurd t
 
--- each place is one of the five
-pub place-small : (p : ℕ) → p < 27 → getD limitPlaces p 0 < 5
+-- each place is one of the five, and its limit stands behind it
+pub place-small : (p : ℕ) → p < 27 → getD limitPlaces p 0 < 9
 unfolding limitPlaces
-place-small p h = ltb-true _ 5 (true-is _ (entry (λ q x. ltb x 5) limitPlaces tt p h))
+place-small p h = ltb-true _ 9 (true-is _ (entry (λ q x. ltb x 9) limitPlaces tt p h))
 
 -- of an operand that is no pin all bits are held to its limit, and of a pin those of the net that it names
 under : (x m : ℕ) → x < 65536 → ltb (bitAnd x 65535) m ≡ true → x < m
@@ -40,12 +40,12 @@ none-set x h t = omega (arith, under x 1 h t)
 
 -- each operand below its limit, for kind k
 record Under (n i k a b c : ℕ) : Type 0 where
-  below-a : ltb (heldAt k a) (limitAt (limitsOf n i) k) ≡ true
-  below-b : ltb (heldAt (9 + k) b) (limitAt (limitsOf n i) (9 + k)) ≡ true
-  below-c : ltb (heldAt (18 + k) c) (limitAt (limitsOf n i) (18 + k)) ≡ true
+  below-a : ltb (heldAt (limitsOf n i) k a) (limitAt (limitsOf n i) k) ≡ true
+  below-b : ltb (heldAt (limitsOf n i) (9 + k) b) (limitAt (limitsOf n i) (9 + k)) ≡ true
+  below-c : ltb (heldAt (limitsOf n i) (18 + k) c) (limitAt (limitsOf n i) (18 + k)) ≡ true
 
 by-limits : (n i k a b c : ℕ) → k < 9 → Fits (net k a b c) → Under n i k a b c → Passes n i (net k a b c)
-unfolding limitPlaces heldBits
+unfolding limitPlaces
 by-limits n i zero a b c h f t =
     rw (none-set b (f .b) (t .below-b), none-set c (f .c) (t .below-c)) (is-const {a = a} (omega (arith, under a 2 (f .a) (t .below-a))))
 by-limits n i (suc zero) a b c h f t =

@@ -2,6 +2,5 @@
 mod limits;
 mod net;
 
-pub use limits::held_bits;
 pub use limits::limit_places;
 pub use net::check_net;

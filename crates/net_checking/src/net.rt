@@ -15,7 +15,7 @@ ghost use mathlib.Core.Path.{_≡_};
 ghost use Rattle.image.specs.Writing.{Fits};
 ghost use Rattle.refusals.specs.Refusals.{refusalIn};
 ghost use Rattle.net_checking.specs.NetCheck.{badPin, badValue, badUnlisted, netRefusal};
-ghost use Rattle.net_checking.specs.Limits.{limitsOf, limitPlaces, heldBits};
+ghost use Rattle.net_checking.specs.Limits.{limitsOf, limitPlaces};
 
 // 5: a REG pin that names a net not below N, or another pin that names one not below its own.
 fn bad_pin(n: usize, i: usize, x: Net) -> bool
@@ -72,19 +72,12 @@ fn refuse_net(n: usize, i: usize, x: Net) -> Outcome
 }
 
 // Refusals 4 to 7 at net i of n. Most nets pass by the limits of their operands alone.
-pub fn check_net(
-    places: &[u8; 27],
-    bits: &[usize; 5],
-    limits: &[usize; 5],
-    n: usize,
-    i: usize,
-    x: Net,
-) -> Outcome
-    requires { ⌜ (now places ≡ limitPlaces) × (now bits ≡ heldBits) × (now limits ≡ limitsOf n i) × Fits x ⌝ }
+pub fn check_net(places: &[u8; 27], limits: &[usize; 10], n: usize, i: usize, x: Net) -> Outcome
+    requires { ⌜ (now places ≡ limitPlaces) × (now limits ≡ limitsOf n i) × Fits x ⌝ }
     ensures { λ r. ⌜ refusalIn r ≡ netRefusal n i x ⌝ }
 {
     if x.kind < 9 {
-        if within(places, bits, limits, x) {
+        if within(places, limits, x) {
             return Outcome::Done;
         }
     }

@@ -49,7 +49,7 @@ module _ {s : List ℕ} {n : ℕ} {ls counts : List ℕ} {i : ℕ} (t : Turn s n
   stops : (r : Refusal) (q : Option Refusal) → netRefusal n i x ≡ some r → some r ≡ (netsRefusal n 0 (netsOf s) then q)
   stops r q e = rw (at-net, e)
 
-  goes-on : netRefusal n i x ≡ none → Turn s n (set ls 3 (i + 1)) (raised counts (x .kind)) (i + 1)
+  goes-on : netRefusal n i x ≡ none → Turn s n (set ls 7 (i + 1)) (raised counts (x .kind)) (i + 1)
   goes-on pass =
       let small : x .kind < 9 = omega (arith, kind-most (passes n i x pass)) in
       record {
@@ -72,74 +72,74 @@ module _ {s : List ℕ} {n : ℕ} {ls counts : List ℕ} {i : ℕ} (h : n ≡ si
       t .counted ∙ rw (e, h)
 
 abbrev Inv-loop : tie.InvT-loop
-Inv-loop s n places bits limits₀ counts₀ i₀ limits counts i = Turn s n limits counts i
+Inv-loop s n places limits₀ counts₀ i₀ limits counts i = Turn s n limits counts i
 
 abbrev μ-loop : tie.MeasureT-loop
-μ-loop s n places bits limits₀ counts₀ i₀ limits counts i = n - i
+μ-loop s n places limits₀ counts₀ i₀ limits counts i = n - i
 
 loop-holds : tie.Need-loop-holds Inv-loop μ-loop
-loop-holds c = let start = c .before .before .before in begins _ _ (start .pre .0)
+loop-holds c = let start = c .before .before in begins _ _ (start .pre .0)
 
 net-of-requires : tie.Need-net-of-requires Inv-loop μ-loop
 net-of-requires c κs =
-    let start = c .before .before .before .before .before in
+    let start = c .before .before .before .before in
     rw (← start .pre .0) (c .loop-test .taken, start .pre .2)
 
 check-net-requires : tie.Need-check-net-requires Inv-loop μ-loop
 check-net-requires c κs =
-    let read = c .before .before .before in
+    let read = c .before .before in
     let at = read .before .before in
-    (at .before .before .limit-places .ensures, at .before .held-bits .ensures, at .loop .inv .limits, read .net-of .ensures .1)
+    (at .before .limit-places .ensures, at .loop .inv .limits, read .net-of .ensures .1)
 
 -- the net of a turn
 this-net : (c : tie.After-net-of Inv-loop μ-loop)
     → let at = c .before .before in
-    let args = at .before .before .before .before .args in
+    let args = at .before .before .before .args in
     c .net-of .result ≡ netAt (args .s .now) (args .n) (at .loop .i)
 this-net c =
-    let start = c .before .before .before .before .before .before in
+    let start = c .before .before .before .before .before in
     rw (start .pre .0) (c .net-of .ensures .0)
 
 returns : tie.Need-returns Inv-loop μ-loop
 returns c =
     let checked = c .before .before .before in
-    let read = checked .before .before .before .before in
+    let read = checked .before .before .before in
     stops (read .before .before .loop .inv) (read .before .loop-test .taken) (this-net read) _ _
     (sym (checked .check-net .ensures) ∙ ap refusalIn (c .before .o .given .1))
 
 -- a net that passed
 passed : (c : tie.After-enum-told Inv-loop μ-loop)
     → let checked = c .before .before in
-    let read = checked .before .before .before .before in
+    let read = checked .before .before .before in
     let at = read .before .before in
-    netRefusal (at .before .before .before .before .args .n) (at .loop .i) (read .net-of .result) ≡ none
+    netRefusal (at .before .before .before .args .n) (at .loop .i) (read .net-of .result) ≡ none
 passed c = sym (c .before .before .check-net .ensures) ∙ ap refusalIn (c .enum-told .given .1)
 
 loop-again : tie.Need-loop-again Inv-loop μ-loop
 loop-again c =
-    let read = c .before .before .before .before .before .before .before in
+    let read = c .before .before .before .before .before .before in
     goes-on (read .before .before .loop .inv) (read .before .loop-test .taken) (this-net read) (passed (c .before))
 
 -- its place among the counts, and the count there
-small : (c : tie.After-enum-told Inv-loop μ-loop) → c .before .before .before .before .before .before .net-of .result .kind < 9
+small : (c : tie.After-enum-told Inv-loop μ-loop) → c .before .before .before .before .before .net-of .result .kind < 9
 small c = omega (arith, kind-most (passes _ _ _ (passed c)))
 
 add-counts : tie.Need-add-counts Inv-loop μ-loop
 add-counts c =
-    let at = c .before .before .before .before .before .before .before .before .before in
+    let at = c .before .before .before .before .before .before .before .before in
     omega (arith, few (at .loop .inv) _ (small (c .before)))
 
 wrong-counts-requires : tie.Need-wrong-counts-requires Inv-loop μ-loop
 wrong-counts-requires c κs =
     let at = c .before .before in
-    let start = at .before .before .before .before in
+    let start = at .before .before .before in
     (omega (arith, start .pre .2), all-counted (start .pre .0) (c .before .loop-test .left) (at .loop .inv))
 
 -- after the last turn
 none-refused : (c : tie.After-loop Inv-loop μ-loop)
-    → let args = c .before .before .before .before .before .args in
+    → let args = c .before .before .before .before .args in
     netsRefusal (args .n) 0 (netsOf (args .s .now)) ≡ none
-none-refused c = all-pass (c .before .before .before .before .before .pre .0) (c .loop-test .left) (c .before .loop .inv)
+none-refused c = all-pass (c .before .before .before .before .pre .0) (c .loop-test .left) (c .before .loop .inv)
 
 returns-2 : tie.Need-returns-2 Inv-loop μ-loop
 returns-2 c =
@@ -157,7 +157,6 @@ check-nets-spec =
     (tie.spec
     Inv-loop
     μ-loop
-    (λ c κs. search needs)
     (λ c κs. search needs)
     loop-holds
     net-of-requires

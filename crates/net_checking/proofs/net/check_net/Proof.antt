@@ -9,7 +9,7 @@ returns : tie.Need-returns
 returns c =
     let tested = c .before in
     let start = tested .before .before .before in
-    sym (within-passes _ _ _ (tested .before .if1 .taken) (start .pre .3) (rw (start .pre .2) at (sym (tested .within .ensures) ∙ c .if2 .taken)))
+    sym (within-passes _ _ _ (tested .before .if1 .taken) (start .pre .2) (rw (start .pre .1) at (sym (tested .within .ensures) ∙ c .if2 .taken)))
 
 pub check-net-spec : {M : Type 1} → statement M
 check-net-spec = tie.close (tie.spec (λ c κs. search needs) returns (λ c κs. search needs) (λ c. search needs))
