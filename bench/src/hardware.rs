@@ -1,7 +1,7 @@
 //! The mode `netlist`: what `hardware/compare` gives to the hardware tools.
 //!
-//! It writes a random netlist as Verilog and as an image, its rows, and the
-//! outputs that the library gives. Vectors are lines of hexadecimal digits, a
+//! It writes a random netlist as Verilog and as an image, its doubled netlist as
+//! Verilog, its rows, and the outputs that the library gives. Vectors are lines of hexadecimal digits, a
 //! line a cycle: the marks, and below them the values.
 
 use std::fs;
@@ -10,11 +10,13 @@ use std::path::Path;
 
 use crate::accepted::accepted;
 use crate::cases::Bytes;
+use crate::doubled::write_doubled;
 use crate::generate::image;
 use crate::mix::Mix;
 use crate::peers::PEERS;
-use crate::verilog::{net, top, MuxAs};
-use tracker::kinds::{CONST, INPUT, MUX, NOT, OUT, REG};
+use crate::pins::{inverted_pins, net_of, pins};
+use crate::verilog::{net, top, MarksAs, MuxAs};
+use tracker::kinds::{OUT, REG};
 use tracker::{Image, Net};
 
 /// Writes the files of one netlist into a folder.
@@ -28,12 +30,13 @@ pub fn write_files(mix: Mix, nets: usize, seed: u64, k: usize, folder: &Path) ->
     let image = accepted(&bytes.image);
     fs::write(folder.join("net.v"), net(image, MuxAs::Gates))?;
     fs::write(folder.join("net-mux.v"), net(image, MuxAs::Cell))?;
-    fs::write(folder.join("top.v"), top(image))?;
+    fs::write(folder.join("top.v"), top(z, MarksAs::Names))?;
     fs::write(folder.join("image.bin"), &bytes.image)?;
     fs::write(folder.join("rows.bin"), &bytes.rows)?;
     fs::write(folder.join("rows.hex"), vectors(&bytes.rows, z.inputs, k))?;
     fs::write(folder.join("outputs.hex"), vectors(&outputs, z.outputs, k))?;
     fs::write(folder.join("sizes.vh"), sizes(&bytes, k))?;
+    write_doubled(&bytes, folder)?;
     print_about(image, &outputs);
     Ok(())
 }
@@ -44,7 +47,21 @@ fn print_about(image: Image, outputs: &[u8]) {
     let (unknown, marked) = (count_marked(&starts), count_marked(outputs));
     print!("{} nets needed by an OUT or REG, ", needed(image));
     print!("{unknown} of {} REGs without a start, ", starts.len());
+    let inverted = inverted_by_kind(image);
+    if inverted != [0; 7] {
+        let counts = inverted.map(|count| count.to_string()).join(" ");
+        print!("inverted pins of kinds 2 to 8: {counts}, ");
+    }
     println!("{marked} of {} output bytes marked", outputs.len());
+}
+
+/// How many pins are inverted, for each of the kinds 2 to 8.
+fn inverted_by_kind(image: Image) -> [usize; 7] {
+    let mut counts = [0; 7];
+    for net in image.nets().filter(|net| net.kind >= REG) {
+        counts[usize::from(net.kind - REG)] += inverted_pins(&net);
+    }
+    counts
 }
 
 /// How many bytes are marked.
@@ -108,19 +125,14 @@ pub fn needed(image: Image) -> usize {
     let nets: Vec<Net> = image.nets().collect();
     let mut needed = vec![false; nets.len()];
     for net in nets.iter().filter(|net| net.kind == REG) {
-        needed[usize::from(net.operands[0])] = true;
+        needed[net_of(net.operands[0])] = true;
     }
     for (i, net) in nets.iter().enumerate().rev() {
         needed[i] |= net.kind == OUT;
-        let pins = match net.kind {
-            _ if !needed[i] => 0,
-            CONST | INPUT | REG => 0,
-            NOT | OUT => 1,
-            MUX => 3,
-            _ => 2,
-        };
-        for pin in &net.operands[..pins] {
-            needed[usize::from(*pin)] = true;
+        if needed[i] && net.kind != REG {
+            for pin in pins(net) {
+                needed[net_of(*pin)] = true;
+            }
         }
     }
     needed.iter().filter(|net| **net).count()

@@ -13,7 +13,7 @@ use crate::cases::Bytes;
 use crate::generate::image;
 use crate::hardware::{needed, sizes};
 use crate::mix::Mix;
-use crate::verilog::{net, top, MuxAs};
+use crate::verilog::{net, top, MarksAs, MuxAs};
 use tracker::kinds::OUT;
 use tracker::{Image, Net};
 
@@ -25,7 +25,7 @@ pub fn write_files(mix: Mix, nets: usize, seed: u64, rows: usize, folder: &Path)
     fs::write(folder.join("net.bin"), &bytes.image)?;
     fs::write(folder.join("rows.bin"), &bytes.rows)?;
     fs::write(folder.join("net.v"), net(image, MuxAs::Gates))?;
-    fs::write(folder.join("top.v"), top(image))?;
+    fs::write(folder.join("top.v"), top(bytes.sizes, MarksAs::Names))?;
     fs::write(folder.join("sizes.vh"), defines)?;
     fs::write(folder.join("outs.hex"), out_nets(image))?;
     let z = bytes.sizes;

@@ -18,6 +18,7 @@ mod checked;
 mod count;
 mod counting;
 mod decoded;
+mod doubled;
 mod forms;
 mod generate;
 mod hardware;

@@ -21,13 +21,7 @@ pub enum Mix {
 }
 
 /// All mixes.
-pub const MIXES: [Mix; 5] = [
-    Mix::Equal,
-    Mix::Gates,
-    Mix::Live,
-    Mix::Real,
-    Mix::Inverted,
-];
+pub const MIXES: [Mix; 5] = [Mix::Equal, Mix::Gates, Mix::Live, Mix::Real, Mix::Inverted];
 
 impl Mix {
     /// What the mix is called, in print and among arguments.

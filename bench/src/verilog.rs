@@ -3,8 +3,9 @@
 //! The module `net` is combinational: a register's value comes in at a port `q`,
 //! and what it takes at the clock goes out at a port `d`. Gates are cells of the
 //! kinds that the pass `glift` of yosys knows, and all ports have one bit, since
-//! the pass takes whole wires only.
+//! the pass takes whole wires only. An inverted pin has `~` before its net.
 
+use crate::pins::{is_inverted, net_of};
 use tracker::kinds::{AND, CONST, INPUT, MUX, NOT, OR, OUT, REG};
 use tracker::{Image, Net, Sizes};
 
@@ -58,20 +59,26 @@ pub fn net(image: Image, mux_as: MuxAs) -> String {
 
 /// One net. `place` is its number among the nets of its kind.
 fn net_text(n: usize, net: Net, place: usize, mux_as: MuxAs) -> String {
-    let [a, b, _] = net.operands;
+    let [a, b, _] = net.operands.map(pin_text);
     let wire = format!("wire n{n};");
     match net.kind {
-        CONST => format!("{wire} assign n{n} = 1'b{a};\n"),
+        CONST => format!("{wire} assign n{n} = 1'b{};\n", net.operands[0]),
         INPUT => format!("{wire} assign n{n} = in{place};\n"),
-        REG => format!("{wire} assign n{n} = q{place}; assign d{place} = n{a};\n"),
-        NOT => format!("{wire} \\$_NOT_ g{n} (.A(n{a}), .Y(n{n}));\n"),
-        MUX => mux_text(n, net.operands, mux_as),
-        OUT => format!("{wire} assign n{n} = n{a}; assign out{place} = n{n};\n"),
+        REG => format!("{wire} assign n{n} = q{place}; assign d{place} = {a};\n"),
+        NOT => format!("{wire} \\$_NOT_ g{n} (.A({a}), .Y(n{n}));\n"),
+        MUX => mux_text(n, net.operands.map(pin_text), mux_as),
+        OUT => format!("{wire} assign n{n} = {a}; assign out{place} = n{n};\n"),
         _ => {
             let cell = cell(net.kind);
-            format!("{wire} \\{cell} g{n} (.A(n{a}), .B(n{b}), .Y(n{n}));\n")
+            format!("{wire} \\{cell} g{n} (.A({a}), .B({b}), .Y(n{n}));\n")
         }
     }
+}
+
+/// What a pin reads.
+fn pin_text(pin: u16) -> String {
+    let inverter = if is_inverted(pin) { "~" } else { "" };
+    format!("{inverter}n{}", net_of(pin))
 }
 
 /// The cell of a gate with two pins.
@@ -84,29 +91,54 @@ fn cell(kind: u8) -> &'static str {
 }
 
 /// MUX: a if c is 0, b if c is 1.
-fn mux_text(n: usize, [a, b, c]: [u16; 3], mux_as: MuxAs) -> String {
+fn mux_text(n: usize, [a, b, c]: [String; 3], mux_as: MuxAs) -> String {
     if let MuxAs::Cell = mux_as {
-        return format!("wire n{n}; \\$_MUX_ g{n} (.A(n{a}), .B(n{b}), .S(n{c}), .Y(n{n}));\n");
+        return format!("wire n{n}; \\$_MUX_ g{n} (.A({a}), .B({b}), .S({c}), .Y(n{n}));\n");
     }
     let mut text = format!("wire n{n}, m{n}, p{n}, s{n};");
-    text += &format!(" \\$_NOT_ gm{n} (.A(n{c}), .Y(m{n}));");
-    text += &format!(" \\$_AND_ gp{n} (.A(n{a}), .B(m{n}), .Y(p{n}));");
-    text += &format!(" \\$_AND_ gs{n} (.A(n{b}), .B(n{c}), .Y(s{n}));");
+    text += &format!(" \\$_NOT_ gm{n} (.A({c}), .Y(m{n}));");
+    text += &format!(" \\$_AND_ gp{n} (.A({a}), .B(m{n}), .Y(p{n}));");
+    text += &format!(" \\$_AND_ gs{n} (.A({b}), .B({c}), .Y(s{n}));");
     text + &format!(" \\$_OR_ g{n} (.A(p{n}), .B(s{n}), .Y(n{n}));\n")
 }
 
-/// The module `top`: `net` as the pass leaves it, with a mark beside each value,
-/// and its ports gathered to vectors of one bit at least.
-pub fn top(image: Image) -> String {
+/// How a module with marks names its ports.
+#[derive(Clone, Copy)]
+pub enum MarksAs {
+    /// As the pass does: a mark has the name of its value, and `_t` behind it.
+    Names,
+    /// As the doubled netlist numbers them: value i is 2i, and its mark 2i + 1.
+    Numbers,
+}
+
+impl MarksAs {
+    /// What stands behind the name of port i, for a value (0) or a mark (1).
+    fn suffix(self, i: usize, mark: usize) -> String {
+        match self {
+            MarksAs::Names => format!("{i}{}", MARKS[mark]),
+            MarksAs::Numbers => format!("{}", 2 * i + mark),
+        }
+    }
+}
+
+/// What stands behind the names of values and of marks.
+const MARKS: [&str; 2] = ["", "_t"];
+
+/// The module `top` of a netlist with these sizes: `net` with a mark beside each
+/// value, and its ports gathered to vectors of one bit at least.
+pub fn top(sizes: Sizes, marks_as: MarksAs) -> String {
     let mut vectors = Vec::new();
     let mut pins = Vec::new();
     let mut rest = String::new();
-    for port in ports(image.sizes()) {
-        for name in [port.name.to_string(), format!("{}_t", port.name)] {
-            let mark = name.strip_prefix(port.name).unwrap_or("");
+    for port in ports(sizes) {
+        for (mark, end) in MARKS.iter().enumerate() {
+            let name = format!("{}{end}", port.name);
             let high = port.count.max(1) - 1;
             vectors.push(format!("{} [{high}:0] {name}", port.direction));
-            let pin = |i: usize| format!(".{}{i}{mark}({name}[{i}])", port.name);
+            let pin = |i: usize| {
+                let suffix = marks_as.suffix(i, mark);
+                format!(".{}{suffix}({name}[{i}])", port.name)
+            };
             pins.extend((0..port.count).map(pin));
             if port.count == 0 && port.direction == "output" {
                 rest += &format!("assign {name} = 1'b0;\n");

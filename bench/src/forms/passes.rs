@@ -17,13 +17,7 @@ pub unsafe fn verdict(image: *const u8, n: usize, from: usize, nets: &Both) -> O
 }
 
 /// The bytes of the OUTs, in net order.
-pub unsafe fn write_outputs(
-    image: *const u8,
-    n: usize,
-    from: usize,
-    nets: &Both,
-    out: *mut u8,
-) {
+pub unsafe fn write_outputs(image: *const u8, n: usize, from: usize, nets: &Both, out: *mut u8) {
     let mut o = 0;
     for i in from..n {
         if kind(image, i) == OUT {

@@ -26,31 +26,31 @@ use Rattle.claims.proofs.InTurn.{InTurn, none-drawn, none-given}
 no-less : false ≡ true → ⊥
 no-less h = let z : _≡_ {A = ℕ} 0 1 = cc in omega arith
 
-implies : (a b : Bool) → (a && b ≡ false) ↔ (a ≡ true → b ≡ false)
+pub implies : (a b : Bool) → (a && b ≡ false) ↔ (a ≡ true → b ≡ false)
 implies true b = (λ h e. h, λ h. h refl)
 implies false b = (λ h e. absurd (no-less e), λ h. refl)
 
-both : (a b : Bool) → (a && b ≡ true) ↔ ((a ≡ true) × (b ≡ true))
+pub both : (a b : Bool) → (a && b ≡ true) ↔ ((a ≡ true) × (b ≡ true))
 both true b = (λ h. (refl, h), λ h. h .1)
 both false b = (λ h. absurd (no-less h), λ h. h .0)
 
-either-one : (a b : Bool) (C : Type 0) → (a || b ≡ true → C) ↔ ((a ≡ true → C) × (b ≡ true → C))
+pub either-one : (a b : Bool) (C : Type 0) → (a || b ≡ true → C) ↔ ((a ≡ true → C) × (b ≡ true → C))
 either-one true b C = (λ f. (f, λ e. f refl), λ f. f .0)
 either-one false b C = (λ f. (λ e. absurd (no-less e), f), λ f. f .1)
 
-is-from : (a b : ℕ) → (leb a b ≡ true) ↔ (a ≤ b)
+pub is-from : (a b : ℕ) → (leb a b ≡ true) ↔ (a ≤ b)
 is-from a b = (leb-true a b, le-leb a b)
 
-is-same : (a b : ℕ) → (eqb a b ≡ true) ↔ (a ≡ b)
+pub is-same : (a b : ℕ) → (eqb a b ≡ true) ↔ (a ≡ b)
 is-same a b = (eqb-true a b, eq-eqb a b)
 
-is-not : (b : Bool) → (not b ≡ true) ↔ (b ≡ false)
+pub is-not : (b : Bool) → (not b ≡ true) ↔ (b ≡ false)
 is-not b = (not-true b, λ h. rw h)
 
-is-so : (b : Bool) → (not b ≡ false) ↔ (b ≡ true)
+pub is-so : (b : Bool) → (not b ≡ false) ↔ (b ≡ true)
 is-so b = (not-false b, λ h. rw h)
 
-ruleset conditions = (neither, implies, both, either-one, is-from, is-same, is-not, is-so, not-above, not-from, not-same)
+pub ruleset conditions = (neither, implies, both, either-one, is-from, is-same, is-not, is-so, not-above, not-from, not-same)
 
 module _ (n i : ℕ) (x : Net) where
   pub pins : (badPin n i x ≡ false) ↔ claim.PinsBelow n i x

@@ -27,4 +27,6 @@ pub mod ClearRun
 pub mod Waking
 pub mod UnknownStart
 pub mod DoubledRun
+pub mod Plainly
+pub mod Upright
 pub mod Promised

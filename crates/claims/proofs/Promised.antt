@@ -25,6 +25,7 @@ use Rattle.claims.proofs.TwoSteps
 use Rattle.claims.proofs.ClearRun
 use Rattle.claims.proofs.UnknownStart
 use Rattle.claims.proofs.DoubledRun
+use Rattle.claims.proofs.Upright
 
 pub promised : Promised
 promised =
@@ -67,4 +68,5 @@ promised =
       bound-reached = Bound.bound-reached;
       demand3 = TwoRun.demand3;
       relations-mean = Meaning.relations-mean;
+      upright = Upright.upright;
     }

@@ -19,4 +19,6 @@ pub mod Pairing
 pub mod TwoRun
 pub mod InBytes
 pub mod UnknownStart
+pub mod Plain
+pub mod Upright
 pub mod Promised

@@ -22,6 +22,7 @@ use Rattle.claims.specs.Pairing.{Demand2}
 use Rattle.claims.specs.TwoRun.{Demand3}
 use Rattle.claims.specs.InBytes.{ClearStays, StepsAgree, DoubledShows}
 use Rattle.claims.specs.UnknownStart.{UnknownStarts}
+use Rattle.claims.specs.Upright.{Uprights}
 
 pub record Promised : Type 0 where
   -- FIRST, what most users lean on. A run that is clear stays clear, and shows the same bytes at its protected OUTs, whatever the untrusted pins and the marked registers held.
@@ -102,3 +103,5 @@ pub record Promised : Type 0 where
   pub demand3 : Demand3
   -- "Agree", by which that is said, means of bytes 0 to 3 equal marks, and equal values where the mark is 0.
   pub relations-mean : RelationsMean
+  -- IMAGES WITHOUT INVERTED PINS (document 02, L3) give by every call what they gave before, and the doubled image of before; and all images that were accepted before are such.
+  pub upright : Uprights

@@ -2,3 +2,4 @@
 pub mod Held
 pub mod HeldDoubling
 pub mod HeldRuns
+pub mod HeldBefore

@@ -2,6 +2,7 @@
 use mathlib.Core.Path.{refl}
 use Rattle.gates.specs.Rules.{value, mark, byte, andMark, notByte, andByte, gateByte}
 use Rattle.image.specs.Image.{sizesOf, netAt, netsFrom, netsOf, count}
+use Rattle.image.specs.Pins.{pinNet}
 use Rattle.image.specs.Examples.{counter, crossed}
 use Rattle.refusals.specs.Refusals.{badByte, badLength}
 use Rattle.net_checking.specs.NetCheck.{netRefusal}
@@ -16,7 +17,7 @@ use Rattle.listing.specs.Pages.{badNet, oneInput, oneConst, delay, Pages
 
 -- what is computed with
 checking : Unit {0}
-unfolding sizesOf netAt netsFrom netsOf count netRefusal netsRefusal checkRefusal badByte badLength runRefusal
+unfolding sizesOf netAt netsFrom netsOf pinNet count netRefusal netsRefusal checkRefusal badByte badLength runRefusal
 checking = tt
 
 running : Unit {0}

@@ -1,0 +1,27 @@
+-- The promise about images without inverted pins, used by its parts, as in Held.
+use Prim.Native.Nat.{ℕ, _<_}
+use mathlib.Core.Path.{_≡_}
+use mathlib.Core.List.{List}
+use mathlib.Core.Option.{none}
+use Rattle.image.specs.Image.{sizesOf}
+use Rattle.checking.specs.Check.{checkRefusal}
+use Rattle.cycle.specs.Calls.{powerUpOf, stepOf, runOf}
+use Rattle.figures.specs.Figures.{doubledSizeOf}
+use Rattle.doubling.specs.Doubling.{doubleOf}
+use Rattle.claims.specs.NetBytes.{netOf}
+use Rattle.claims.specs.Plain.{plainCheck, plainPowerUp, plainStep, plainRun, plainSize, plainDouble}
+use Rattle.claims.specs.Upright.{Upright}
+use Rattle.claims.proofs.Promised.{promised}
+
+module _ (s : List ℕ) (u : (i : ℕ) → i < sizesOf s .nets → Upright (netOf s i)) where
+  same-check : (checkRefusal s ≡ plainCheck s) × (doubledSizeOf s ≡ plainSize s)
+  same-check = let p = promised .upright .same s u in (p .check, p .doubled-size)
+
+  same-calls : (st row nets rows outputs buf : List ℕ) (k : ℕ)
+      → (powerUpOf s st ≡ plainPowerUp s st) × (stepOf s st row nets ≡ plainStep s st row nets) × (runOf s st k rows outputs ≡ plainRun s st k rows outputs)
+      × (doubleOf s buf ≡ plainDouble s buf)
+  same-calls st row nets rows outputs buf k = let p = promised .upright .same s u in (p .power-up st, p .step st row nets, p .run st k rows outputs, p .double buf)
+
+-- an image that was accepted before
+same-run : (s : List ℕ) → plainCheck s ≡ none → (st : List ℕ) (k : ℕ) (rows outputs : List ℕ) → runOf s st k rows outputs ≡ plainRun s st k rows outputs
+same-run s h = promised .upright .same s (promised .upright .before s h) .run
