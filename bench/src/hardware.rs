@@ -1,8 +1,8 @@
 //! The mode `netlist`: what `hardware/compare` gives to the hardware tools.
 //!
 //! It writes a random netlist as Verilog and as an image, its doubled netlist as
-//! Verilog, its rows, and the outputs that the library gives. Vectors are lines of hexadecimal digits, a
-//! line a cycle: the marks, and below them the values.
+//! Verilog, its rows, and the outputs that the library gives. Vectors are lines of
+//! hexadecimal digits, a line a cycle: the marks, and below them the values.
 
 use std::fs;
 use std::io;
