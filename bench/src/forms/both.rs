@@ -13,20 +13,24 @@ pub const INVERSES: usize = INVERTED as usize;
 /// policy names one of them where it is read as if it were a pin.
 const SET: usize = 3;
 
-/// The bytes of the nets, and from `INVERSES` on those of their inverses. Of a small
-/// netlist only a part of the array is ever touched.
+/// The bytes of the nets, and from `INVERSES` on those of their inverses. Nothing is
+/// filled that is not used, so that small netlists take little time.
 pub struct Both([MaybeUninit<u8>; INVERSES + MOST_NETS]);
 
 impl Both {
-    /// No net has its byte yet, but for the first ones, which have 0.
+    /// An array in which no net has a byte yet.
     #[inline(always)]
-    pub fn new() -> Both {
-        let mut both = Both([MaybeUninit::uninit(); INVERSES + MOST_NETS]);
+    pub fn empty() -> Both {
+        Both([MaybeUninit::uninit(); INVERSES + MOST_NETS])
+    }
+
+    /// The first nets take 0.
+    #[inline(always)]
+    pub fn set_first(&mut self) {
         for net in 0..SET {
-            // SAFETY: there are more places than these.
-            unsafe { both.put(net, 0) };
+            // SAFETY: there are more nets than these.
+            unsafe { self.put(net, 0) };
         }
-        both
     }
 
     /// A net below 8,192 takes a byte.
@@ -36,13 +40,14 @@ impl Both {
         self.0.get_unchecked_mut(INVERSES + net).write(byte ^ 1);
     }
 
-    /// What a pin reads. The net that it names has its byte.
+    /// What a pin reads. The net that it names has a byte.
     #[inline(always)]
     pub unsafe fn read(&self, pin: usize) -> u8 {
         self.0.get_unchecked(pin).assume_init()
     }
 
     /// The first place.
+    #[inline(always)]
     pub fn as_mut_ptr(&mut self) -> *mut u8 {
         self.0.as_mut_ptr().cast()
     }

@@ -13,7 +13,8 @@ use tracker::Sizes;
 /// The k cycles of an accepted run.
 pub fn cycles(mut call: Call, z: Sizes) -> First {
     let (image, n) = (call.image.as_ptr(), z.nets);
-    let mut nets = Both::new();
+    let mut nets = Both::empty();
+    nets.set_first();
     let mut first = None;
     // SAFETY, here and below: the image, the state and the rows have been accepted.
     let (outs, regs) = unsafe { (lowest(image, n, OUT), lowest(image, n, REG)) };

@@ -14,6 +14,9 @@ use tracker::Sizes;
 pub fn cycles(mut call: Call, z: Sizes) -> First {
     let (image, n) = (call.image.as_ptr(), z.nets);
     let mut buffers = Buffers::new();
+    for nets in &mut buffers.nets {
+        nets.set_first();
+    }
     let mut first = None;
     for cycle in 0..call.k {
         let now = cycle % 2;

@@ -24,7 +24,7 @@ struct Lists<'a> {
 pub fn cycles(mut call: Call, z: Sizes) -> First {
     let (image, n) = (call.image.as_ptr(), z.nets);
     let mut space = [0u16; MOST_NETS];
-    let mut nets = Both::new();
+    let mut nets = Both::empty();
     let mut first = None;
     // SAFETY, here and below: the image, the state and the rows have been accepted.
     let lists = unsafe { list_kinds(image, z, &mut space) };

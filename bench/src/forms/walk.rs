@@ -22,9 +22,10 @@ pub struct Buffers {
 }
 
 impl Buffers {
+    #[inline(always)]
     pub fn new() -> Buffers {
         Buffers {
-            nets: [Both::new(), Both::new()],
+            nets: [Both::empty(), Both::empty()],
             row: [0; MOST_NETS + 1],
             outputs: [0; MOST_NETS + 1],
             policies: [0; MOST_NETS + 1],

@@ -1,7 +1,6 @@
 -- Pins, in numbers.
 use Prim.Native.Nat.{ℕ, _+_, _/_, _%_, _≤_}
 use mathlib.Core.Path.{_≡_, refl}
-use mathlib.Core.List.{List}
 use borrow.Author.Tests.{eqb-true}
 use lib.Dec.{eqb}
 use lib.ListN.{getD}
@@ -9,14 +8,9 @@ use Rattle.gates.specs.Rules.{value, mark, byte, notByte, gateByte}
 use Rattle.gates.proofs.EachCode.{each}
 use Rattle.image.specs.Pins.{likePin}
 use Rattle.image.proofs.PinNets.{plain-net, plain-pin, top-net, top-pin}
-use Rattle.cycle.specs.Cycle.{pinByte}
-use Rattle.cycle.proofs.Ruling.{plain-reads}
+use Rattle.cycle.proofs.Ruling.{plain-reads, inverted-reads}
 use Rattle.doubled.specs.Doubled.{valuePin, markPin}
 use Rattle.claims.specs.PinsMean.{PinsMean}
-
-as-not : (bs : List ℕ) (j : ℕ) → pinByte gateByte bs (32768 + j) ≡ notByte (getD bs j 0)
-unfolding pinByte gateByte
-as-not bs j = rw (top-pin j, top-net j)
 
 not-value : (x : ℕ) → x ≤ 3 → notByte x % 2 ≡ (1 + x) % 2
 unfolding value mark byte notByte
@@ -33,9 +27,9 @@ pins-mean =
       names = λ j h. plain-net h;
       reads = λ bs j h. plain-reads gateByte bs h;
       names-inverted = λ j h. top-net j;
-      reads-value = λ bs j h c. rw (as-not bs j) (not-value (getD bs j 0) c);
-      reads-mark = λ bs j h c. rw (as-not bs j) (not-mark (getD bs j 0) c);
-      as-not = λ bs j h. as-not bs j;
+      reads-value = λ bs j h c. rw (inverted-reads bs j) (not-value (getD bs j 0) c);
+      reads-mark = λ bs j h c. rw (inverted-reads bs j) (not-mark (getD bs j 0) c);
+      as-not = λ bs j h. inverted-reads bs j;
       value-pin = λ xs j h. rw (plain-pin h, plain-net h);
       value-inverted = λ xs j h. rw (top-pin j, top-net j);
       mark-pin = λ xs j h. rw (plain-net h);

@@ -8,11 +8,11 @@ use mathlib.Core.List.{List}
 use lib.ListN.{length, getD, take, drop}
 use lib.Seq.{ext-getD}
 use Rattle.gates.specs.Kinds.{INPUT, REG, OUT}
-use Rattle.gates.specs.Rules.{gateByte}
+use Rattle.gates.specs.Rules.{notByte, gateByte}
 use Rattle.image.specs.declared.image.Net.{Net}
 use Rattle.image.specs.Image.{count}
 use Rattle.image.specs.Pins.{pinNet}
-use Rattle.image.proofs.PinNets.{plain-net, plain-pin, zero-net}
+use Rattle.image.proofs.PinNets.{plain-net, plain-pin, top-net, top-pin, zero-net}
 use Rattle.net_checking.proofs.Passes.{Passes, is-const, is-input, is-reg, is-not, is-and, is-or, is-xor, is-mux, is-out}
 use Rattle.checking.proofs.Checked.{AllPass, nil, cons}
 use Rattle.cycle.specs.Cycle.{Rule, Walk, pinByte, netByte, bytesOf}
@@ -44,6 +44,11 @@ pass-at {k = k} (cons p ps) (suc i) d h = let e : k + suc i ≡ suc k + i = omeg
 pub plain-reads : (rule : Rule) (bs : List ℕ) {p : ℕ} → p < 32768 → pinByte rule bs p ≡ getD bs p 0
 unfolding pinByte
 plain-reads rule bs h = rw (plain-pin h, plain-net h)
+
+-- and one with it what a NOT of that net gives, which has the other value and the same mark
+pub inverted-reads : (bs : List ℕ) (j : ℕ) → pinByte gateByte bs (32768 + j) ≡ notByte (getD bs j 0)
+unfolding pinByte gateByte
+inverted-reads bs j = rw (top-pin j, top-net j)
 
 -- what a pin reads depends on the byte of its net alone
 pub pin-same : (rule : Rule) (bs cs : List ℕ) (p : ℕ) → getD bs (pinNet p) 0 ≡ getD cs (pinNet p) 0 → pinByte rule bs p ≡ pinByte rule cs p
