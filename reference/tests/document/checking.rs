@@ -3,7 +3,8 @@
 
 use crate::images::*;
 use crate::lent::*;
-use reference::{check, Net, Netlist, Pin, Policy, Start};
+use crate::pins::decoded_nine_kinds;
+use reference::{check, Net, Pin};
 
 /// Two CONSTs as nets 0 and 1, and the given entry as net 2.
 fn third(entry: Entry) -> Vec<u8> {
@@ -150,22 +151,5 @@ fn kinds_stand_first_and_operands_after_them() {
 // The lines of `nine_kinds`, in the decoded form.
 #[test]
 fn the_decoded_form_of_the_nine_kinds() {
-    let pin = Pin::plain;
-    let expected = Netlist {
-        inputs: 1,
-        registers: 1,
-        outputs: 1,
-        nets: vec![
-            Net::Reg(pin(6), Start::NoneGiven),
-            Net::Input,
-            Net::Const(true),
-            Net::Not(pin(1)),
-            Net::And(pin(1), pin(3)),
-            Net::Or(pin(2), pin(4)),
-            Net::Mux(pin(3), pin(4), pin(0)),
-            Net::Xor(pin(5), pin(6)),
-            Net::Out(pin(7), Policy::Protected),
-        ],
-    };
-    assert_eq!(check(&nine_kinds()), Ok(expected));
+    assert_eq!(check(&nine_kinds()), Ok(decoded_nine_kinds(Pin::plain)));
 }

@@ -5,8 +5,8 @@
 use crate::checking::{accepts, refuses};
 use crate::images::*;
 use crate::lent::*;
-use crate::pins::{all_inversions, all_inverted, inverted};
-use reference::{check, doubled_size, Net, Netlist, Pin, Policy, Start};
+use crate::pins::{all_inversions, all_inverted, decoded_nine_kinds, inverted};
+use reference::{check, doubled_size, Net, Pin};
 
 // Net 2 may read nets 0 and 1, also inverted. Net 2 itself, those above it, and
 // those of which the high byte is not 0 are refused with the bit as they are
@@ -228,22 +228,6 @@ fn the_decoded_form_of_the_nine_kinds_inverted() {
         net,
         inverted: true,
     };
-    let expected = Netlist {
-        inputs: 1,
-        registers: 1,
-        outputs: 1,
-        nets: vec![
-            Net::Reg(pin(6), Start::NoneGiven),
-            Net::Input,
-            Net::Const(true),
-            Net::Not(pin(1)),
-            Net::And(pin(1), pin(3)),
-            Net::Or(pin(2), pin(4)),
-            Net::Mux(pin(3), pin(4), pin(0)),
-            Net::Xor(pin(5), pin(6)),
-            Net::Out(pin(7), Policy::Protected),
-        ],
-    };
     let image = counted(&all_inverted(&NINE_KINDS));
-    assert_eq!(check(&image), Ok(expected));
+    assert_eq!(check(&image), Ok(decoded_nine_kinds(pin)));
 }

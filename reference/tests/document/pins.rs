@@ -1,6 +1,7 @@
 //! Inverted pins for the tests: request L3 of document 02.
 
 use crate::images::*;
+use reference::{Net, Netlist, Pin, Policy, Start};
 
 /// The operand of a pin that reads this net inverted: the net's number with the
 /// top bit, 32,768.
@@ -86,4 +87,25 @@ fn all_choices_of_inverted_pins() {
     assert_eq!(muxes[2], (MUX, 3, i(4), 5));
     assert_eq!(muxes[4], (MUX, 3, 4, i(5)));
     assert_eq!(muxes[7], (MUX, i(3), i(4), i(5)));
+}
+
+/// The lines of `NINE_KINDS`, in the decoded form, with pins made by a function
+/// of the net that they name.
+pub fn decoded_nine_kinds(pin: impl Fn(usize) -> Pin) -> Netlist {
+    Netlist {
+        inputs: 1,
+        registers: 1,
+        outputs: 1,
+        nets: vec![
+            Net::Reg(pin(6), Start::NoneGiven),
+            Net::Input,
+            Net::Const(true),
+            Net::Not(pin(1)),
+            Net::And(pin(1), pin(3)),
+            Net::Or(pin(2), pin(4)),
+            Net::Mux(pin(3), pin(4), pin(0)),
+            Net::Xor(pin(5), pin(6)),
+            Net::Out(pin(7), Policy::Protected),
+        ],
+    }
 }
