@@ -1,15 +1,15 @@
--- Document 01's examples C1 to C12, and a run of two rows, hold by computation.
+-- Document 01's examples C1 to C12, a run of two rows, and a step with inverted pins, hold by computation.
 use mathlib.Core.Path.{refl}
 use Rattle.gates.specs.Rules.{value, mark, byte, andMark, orMark, xorMark, muxMark, notByte, andByte, orByte, xorByte, muxByte, gateByte}
-use Rattle.image.specs.Image.{sizesOf, netAt, netsFrom, netsOf, count}
+use Rattle.image.specs.Image.{sizesOf, netAt, netsFrom, netsOf, count, encode}
 use Rattle.image.specs.Pins.{pinNet}
 use Rattle.image.specs.Examples.{counter, crossed}
 use Rattle.refusals.specs.Refusals.{badByte, badLength}
 use Rattle.net_checking.specs.NetCheck.{netRefusal}
 use Rattle.checking.specs.Check.{netsRefusal, checkRefusal}
 use Rattle.cycle.specs.Cycle.{pinByte, netByte, past, walk, bytesOf, verdictFrom, outputsFrom, registers, clocked, cycleOf, cyclesOf, outputsOf, stateAfter, firstOf, firstFlow}
-use Rattle.cycle.specs.Calls.{start, starts, powerUpRefusal, powerUpOf, asRun, runRefusal, runOf}
-use Rattle.claims.specs.Examples.{counted, twoRows, Examples}
+use Rattle.cycle.specs.Calls.{start, starts, powerUpRefusal, powerUpOf, asStep, stepRefusal, stepOf, asRun, runRefusal, runOf}
+use Rattle.claims.specs.Examples.{counted, twoRows, invertedPins, invertedStep, Examples}
 
 -- what is computed with
 gating : Unit {0}
@@ -17,15 +17,15 @@ unfolding value mark byte andMark orMark xorMark muxMark notByte andByte orByte 
 gating = tt
 
 checking : Unit {0}
-unfolding sizesOf netAt netsFrom netsOf pinNet count netRefusal netsRefusal checkRefusal badByte badLength powerUpRefusal runRefusal
+unfolding sizesOf netAt netsFrom netsOf pinNet count netRefusal netsRefusal checkRefusal badByte badLength powerUpRefusal stepRefusal runRefusal
 checking = tt
 
 running : Unit {0}
-unfolding pinByte netByte past walk bytesOf verdictFrom outputsFrom registers clocked cycleOf cyclesOf outputsOf stateAfter firstOf firstFlow start starts powerUpOf asRun runOf
+unfolding pinByte netByte past walk bytesOf verdictFrom outputsFrom registers clocked cycleOf cyclesOf outputsOf stateAfter firstOf firstFlow start starts powerUpOf asStep stepOf asRun runOf
 running = tt
 
 pub examples : Examples
-unfolding gating checking running counter counted crossed twoRows
+unfolding gating checking running counter counted crossed twoRows encode invertedPins invertedStep
 examples =
     record {
       c1 = refl;
@@ -42,4 +42,5 @@ examples =
       c12 = refl;
       c12-flow = refl;
       two-rows = refl;
+      inverted = refl;
     }

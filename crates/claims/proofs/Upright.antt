@@ -127,11 +127,11 @@ net-upright n i x few l h =
       c = λ o. let q = p .1 o in omega arith;
     }
 
-accepted-before : (s : List ℕ) → plainCheck s ≡ none → AllUpright s
+accepted-upright : (s : List ℕ) → plainCheck s ≡ none → AllUpright s
 unfolding plainCheck
-accepted-before s h i l =
+accepted-upright s h i l =
     let t = simp accepted at h in
     net-upright (sizesOf s .nets) i (netOf s i) (t .1 .0 .1) l (none-drawn (net 0 0 0 0) (plain-in-turn _) (netsOf s) (t .1 .1 .1 .0) i (omega (arith, length-nets s)))
 
 pub upright : Uprights
-upright = record { same = as-before; before = accepted-before }
+upright = record { same = as-before; before = accepted-upright; accepted-before = λ s h. as-before s (accepted-upright s h) }

@@ -43,10 +43,11 @@ theirGroups =
     -- 31 OUT: OUT va, free; OUT ta, free
     ++ (net OUT 24 0 0 ∷ net OUT 30 0 0 ∷ [])
 
--- the same nets with inverted pins: the top bit on each pin of kinds 2 to 8 but b of the AND and a of the OR
+-- a pin with the top bit
 abbrev top : ℕ → ℕ
 top j = 32768 + j
 
+-- the same nets with inverted pins: the top bit on each pin of kinds 2 to 8 but b of the AND and a of the OR
 unfoldable pub invertedOfEach : List Net
 invertedOfEach =
     net CONST 1 0 0

@@ -1,19 +1,18 @@
 -- The calls as document 01 has them without document 02's L3: a pin is the number of a net, and reads the byte of that net. Upright says that images without inverted pins give
--- by every call what these definitions give. Nothing else uses them. What does not look at pins is that of the other definitions.
+-- by every call what these definitions give. Nothing else uses them. What does not look at operands is that of the other definitions, `plainBytes` too, which are the bytes that the calls take.
 use Prim.Native.Nat.{ℕ, zero, suc, _+_, _*_}
 use mathlib.Core.List.{List, [], _∷_, _++_}
 use mathlib.Core.Option.{Option, none, some}
 use mathlib.Core.Bool.{Bool, _&&_, _||_, not, cond}
 use lib.Dec.{eqb, leb, ltb}
 use lib.ListN.{length, getD, take, drop, replicate}
-use Rattle.gates.specs.Kinds.{CONST, INPUT, REG}
+use Rattle.gates.specs.Kinds.{CONST, INPUT, REG, OUT}
 use Rattle.gates.specs.Rules.{gateByte}
 use Rattle.image.specs.declared.image.Net.{Net}
 use Rattle.image.specs.Image.{sizesOf, netsOf, encode}
 use Rattle.refusals.specs.declared.answer.Refusal.{Refusal}
 use Rattle.refusals.specs.Refusals.{refusal, refuse, _then_, plainBytes, badLength}
-use Rattle.net_checking.specs.Operands.{pinA, pinB, pinC}
-use Rattle.net_checking.specs.NetCheck.{badValue, badUnlisted}
+use Rattle.net_checking.specs.Operands.{listsA, listsB, listsC, pinA, pinB, pinC}
 use Rattle.checking.specs.Check.{wrongCounts}
 use Rattle.checking.specs.Counts.{kindCounts}
 use Rattle.cycle.specs.Cycle.{Walk, verdictFrom, outputsFrom, registers, Cycle}
@@ -31,12 +30,25 @@ plainBadPin n i x =
     || (pinB (x .kind) && leb i (x .b))
     || (pinC (x .kind) && leb i (x .c))
 
+-- 6 and 7 look at operands that are no pins
+abbrev pub plainBadValue : Net → Bool
+plainBadValue x =
+    (eqb (x .kind) CONST && ltb 1 (x .a))
+    || (eqb (x .kind) REG && ltb 2 (x .b))
+    || (eqb (x .kind) OUT && ltb 1 (x .b))
+
+abbrev pub plainBadUnlisted : Net → Bool
+plainBadUnlisted x =
+    (not (listsA (x .kind)) && not (eqb (x .a) 0))
+    || (not (listsB (x .kind)) && not (eqb (x .b) 0))
+    || (not (listsC (x .kind)) && not (eqb (x .c) 0))
+
 unfoldable pub plainNetRefusal : (n i : ℕ) → Net → Option Refusal
 plainNetRefusal n i x =
     refuse (ltb 8 (x .kind)) 4 i
     then refuse (plainBadPin n i x) 5 i
-    then refuse (badValue x) 6 i
-    then refuse (badUnlisted x) 7 i
+    then refuse (plainBadValue x) 6 i
+    then refuse (plainBadUnlisted x) 7 i
 
 unfoldable pub plainNetsRefusal : (n i : ℕ) → List Net → Option Refusal
 plainNetsRefusal n i [] = none

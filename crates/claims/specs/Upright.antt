@@ -34,5 +34,6 @@ pub record AsBefore (s : List ℕ) : Type 0 where
 -- proved as `upright`
 pub record Uprights : Type 0 where
   pub same : (s : List ℕ) → AllUpright s → AsBefore s
-  -- an image that was accepted before has no pin with the bit
+  -- an image that was accepted before has no pin with the bit, and so gives the same bytes
   pub before : (s : List ℕ) → plainCheck s ≡ none → AllUpright s
+  pub accepted-before : (s : List ℕ) → plainCheck s ≡ none → AsBefore s

@@ -20,7 +20,7 @@ pub record Walk : Type 0 where
   pub state : List ℕ
 
 -- what a pin reads: the byte of the net that it names; with its top bit set, what a NOT of that net gives by the rule, its value inverted and its mark unchanged.
--- Checking sees to it that there is such a net; 0 stands in otherwise
+-- Checking sees to it that there is such a net; otherwise its byte counts as 0
 unfoldable pub pinByte : Rule → (bs : List ℕ) (p : ℕ) → ℕ
 pinByte rule bs p = let x = getD bs (pinNet p) 0 in cond (inverted p) (rule NOT x 0 0) x
 

@@ -11,7 +11,7 @@ use Rattle.gates.specs.Rules.{mark, notByte, andByte, orByte, xorByte, muxByte,
 use Rattle.gates.specs.Relations.{AgreeByte, BelowByte, equal, zero-marked}
 use Rattle.gates.specs.Meaning.{Changed}
 use Rattle.image.specs.declared.image.Net.{Net}
-use Rattle.image.specs.Image.{sizesOf, netsOf, count}
+use Rattle.image.specs.Image.{sizesOf, net, netsOf, count}
 use Rattle.image.specs.Pins.{pinNet}
 use Rattle.refusals.specs.declared.answer.Refusal.{Refusal}
 use Rattle.checking.specs.Check.{checkRefusal}
@@ -21,8 +21,8 @@ use Rattle.doubled.specs.Doubled.{doubledSize, valueNet, doubledNets}
 use Rattle.figures.specs.Figures.{doubledSizeOf}
 use Rattle.doubling.specs.Doubling.{doubleRefusal, doubleOf}
 use Rattle.claims.specs.Reading.{twoBytes}
-use Rattle.claims.specs.Accepted.{AcceptedImage}
-use Rattle.claims.specs.Examples.{counted, twoRows}
+use Rattle.claims.specs.Accepted.{AcceptedImage, PinsBelow, ValuesListed, UnlistedZero}
+use Rattle.claims.specs.Examples.{counted, twoRows, invertedStep}
 use Rattle.claims.specs.NetBytes.{netOf, Counted, HasByte}
 use Rattle.claims.specs.Steps.{stepsOf, outputsIn, lastState}
 use Rattle.claims.specs.Figures.{total}
@@ -69,7 +69,17 @@ net-read : (s : List ℕ) (i : ℕ) → i < sizesOf s .nets
     × (netOf s i .b ≡ twoBytes s (8 + sizesOf s .nets + 6 * i + 2)) × (netOf s i .c ≡ twoBytes s (8 + sizesOf s .nets + 6 * i + 4))
 net-read s i h = let r = promised .image-read s in (r .kind i h, r .a i h, r .b i h, r .c i h)
 
--- ACCEPTED calls
+-- ACCEPTED calls. 5 looks at the nets that pins name, and at nothing else of them; 6 and 7 at all 16 bits of operands that are no pins
+pins-below : (n i : ℕ) (x : Net) → pinNet (x .a) < n → pinNet (x .a) < i → pinNet (x .b) < i → pinNet (x .c) < i → PinsBelow n i x
+pins-below n i x reg a b c = record { reg = λ k. reg; a = λ l m. a; b = λ l m. b; c = λ k. c }
+
+values-listed : (x : Net) → ValuesListed x → (x .kind ≡ 0 → x .a ≤ 1) × (x .kind ≡ 2 → x .b ≤ 2) × (x .kind ≡ 8 → x .b ≤ 1)
+values-listed x v = (v .const, v .start, v .policy)
+
+unlisted-zero : (x : Net) → UnlistedZero x
+    → (x .kind ≡ 1 → (x .a ≡ 0) × (x .b ≡ 0)) × (x .kind ≡ 0 → x .b ≡ 0) × (x .kind ≡ 3 → x .b ≡ 0) × ((x .kind ≡ 7 → ⊥) → x .c ≡ 0)
+unlisted-zero x u = (λ k. (u .input-a k, u .input-b k), u .const-b, u .not-b, u .c)
+
 accepted-power-up : (s st : List ℕ) → AcceptedImage s → length st ≡ stateLength (sizesOf s) → powerUpRefusal s st ≡ none
 accepted-power-up s st a l = promised .when-accepted .power-up s st .1 (a, l)
 
@@ -115,6 +125,10 @@ counter-run = (promised .examples .c12, promised .examples .c12-flow)
 two-rows : twoRows .outputs ≡ 2 ∷ 1 ∷ 0 ∷ 3 ∷ []
 two-rows = promised .examples .two-rows
 
+-- a step with inverted pins, each pin of each kind
+inverted-pins : (invertedStep .answer ≡ done (flow 12)) × (invertedStep .state ≡ 3 ∷ []) × (invertedStep .nets ≡ 2 ∷ 1 ∷ 0 ∷ 2 ∷ 3 ∷ 0 ∷ 2 ∷ 2 ∷ 2 ∷ 2 ∷ 3 ∷ 3 ∷ 3 ∷ [])
+inverted-pins = let e = promised .examples .inverted in (rw e, rw e, rw e)
+
 -- CYCLES of an accepted image
 module _ (s st : List ℕ) (h : checkRefusal s ≡ none) (l : length st ≡ stateLength (sizesOf s)) where
   register-starts : (i : ℕ) → i < sizesOf s .nets → netOf s i .kind ≡ REG
@@ -140,6 +154,19 @@ module _ (s st : List ℕ) (h : checkRefusal s ≡ none) (l : length st ≡ stat
   only-bytes : (row bs : List ℕ) → length bs ≡ sizesOf s .nets
       → ((i : ℕ) → i < sizesOf s .nets → HasByte s row st bs i (netOf s i) (getD bs i 0)) → bs ≡ cycleOf (netsOf s) row st .bytes
   only-bytes row bs = promised .ruled-bytes s row st bs h
+
+-- the byte that a net of each kind may have, by what its pins read
+module _ (s row st bs : List ℕ) (i a b c : ℕ) (ha : pinNet a < i) (hb : pinNet b < i) (hc : pinNet c < i) where
+  abbrev pin : ℕ → ℕ
+  pin p = pinByte gateByte bs p
+
+  abbrev Has : Net → ℕ → Type 0
+  Has = HasByte s row st bs i
+
+  may-have :
+      Has (net NOT a 0 0) (notByte (pin a)) × Has (net AND a b 0) (andByte (pin a) (pin b)) × Has (net OR a b 0) (orByte (pin a) (pin b))
+      × Has (net XOR a b 0) (xorByte (pin a) (pin b)) × Has (net MUX a b c) (muxByte (pin a) (pin b) (pin c)) × Has (net OUT a 1 0) (pin a)
+  may-have = (HasByte.not ha, HasByte.and ha hb, HasByte.or ha hb, HasByte.xor ha hb, HasByte.mux ha hb hc, HasByte.out ha)
 
 -- CALLS
 step-nets : (s st row nets : List ℕ) → stepRefusal s st row nets ≡ none → stepOf s st row nets .nets ≡ cycleOf (netsOf s) row st .bytes

@@ -3,6 +3,7 @@ use Prim.Native.Nat.{ℕ, _<_}
 use mathlib.Core.Path.{_≡_}
 use mathlib.Core.List.{List}
 use mathlib.Core.Option.{none}
+use Rattle.image.specs.declared.image.Net.{Net}
 use Rattle.image.specs.Image.{sizesOf}
 use Rattle.checking.specs.Check.{checkRefusal}
 use Rattle.cycle.specs.Calls.{powerUpOf, stepOf, runOf}
@@ -22,6 +23,13 @@ module _ (s : List ℕ) (u : (i : ℕ) → i < sizesOf s .nets → Upright (netO
       × (doubleOf s buf ≡ plainDouble s buf)
   same-calls st row nets rows outputs buf k = let p = promised .upright .same s u in (p .power-up st, p .step st row nets, p .run st k rows outputs, p .double buf)
 
+-- a net with no top bit in any operand is upright
+no-top : (x : Net) → x .a < 32768 → x .b < 32768 → x .c < 32768 → Upright x
+no-top x a b c = record { a = λ h k. a; b = λ h k. b; c = λ h. c }
+
 -- an image that was accepted before
 same-run : (s : List ℕ) → plainCheck s ≡ none → (st : List ℕ) (k : ℕ) (rows outputs : List ℕ) → runOf s st k rows outputs ≡ plainRun s st k rows outputs
-same-run s h = promised .upright .same s (promised .upright .before s h) .run
+same-run s h = promised .upright .accepted-before s h .run
+
+without-bit : (s : List ℕ) → plainCheck s ≡ none → (i : ℕ) → i < sizesOf s .nets → Upright (netOf s i)
+without-bit s h = promised .upright .before s h

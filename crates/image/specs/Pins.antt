@@ -3,7 +3,7 @@ use Prim.Native.Nat.{ℕ, _+_, _-_}
 use mathlib.Core.Bool.{Bool, cond}
 use lib.Dec.{leb}
 
--- whether the top bit of a pin is set, which is worth 32,768
+-- whether the top bit of a pin is set, which is worth 32,768; a pin is a number below 65,536
 abbrev pub inverted : (p : ℕ) → Bool
 inverted p = leb 32768 p
 

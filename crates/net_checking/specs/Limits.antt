@@ -7,8 +7,8 @@ use lib.Dec.{ltb}
 use lib.ListN.{getD}
 use Rattle.image.specs.declared.image.Net.{Net}
 
--- the limits that there are for net i of n, each behind the bits of an operand that are held to it, of a pin all but the top one: an operand that is not listed is 0, a CONST and
--- a policy are 0 or 1, a start is 0 to 2, a pin names a net below its own, and a REG's pin one below N
+-- the limits that there are for net i of n: an operand that is not listed is 0, a CONST and a policy are 0 or 1, a start is 0 to 2, a pin names a net below its own, and a REG's
+-- pin one below N. In front of each limit stand the bits of an operand that are held to it: of a pin all but the top one
 abbrev pub limitsOf : (n i : ℕ) → List ℕ
 limitsOf n i = 65535 ∷ 1 ∷ 65535 ∷ 2 ∷ 65535 ∷ 3 ∷ 32767 ∷ i ∷ 32767 ∷ n ∷ []
 
