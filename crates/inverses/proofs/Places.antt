@@ -11,7 +11,7 @@ use Rattle.gates.specs.Rules.{gateByte}
 use Rattle.image.specs.Pins.{pinNet}
 use Rattle.image.proofs.PinNets.{by-pin, plain-net, plain-pin, top-net, top-pin}
 use Rattle.cycle.specs.Cycle.{pinByte}
-use Rattle.cycle.proofs.Deciding.{same-or-not, below-or-here}
+use Rattle.cycle.proofs.Deciding.{same-or-not}
 use Rattle.inverses.specs.Inverses.{putBoth, Both}
 
 -- PUTTING a byte

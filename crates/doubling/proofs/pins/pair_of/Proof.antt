@@ -1,6 +1,6 @@
 -- `doubling::pins::pair_of` meets its contract: the value pin is start i with the bit of the pin, and the mark pin stands right before start i + 1.
 use Prim.Native.Nat.{ℕ, _+_, _-_, _≤_, _<_}
-use mathlib.Core.Path.{_≡_, sym, _∙_}
+use mathlib.Core.Path.{_≡_, sym}
 use mathlib.Core.List.{List}
 use native.Mathlib.Omega.{arith}
 use borrow.Author.Needs.{needs}

@@ -1,6 +1,5 @@
 -- `settling::settling::settle` meets its contract: a gate or OUT takes the code of the table, and another net keeps its byte.
 use Prim.Native.Nat.{ℕ, _+_, _*_, _≤_, _<_}
-use borrow.Author.Needs.{needs}
 use borrow.Author.Tests.{lt-leb}
 use native.Mathlib.Omega.{arith}
 use mathlib.Core.Path.{_≡_, _∙_}
