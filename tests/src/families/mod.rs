@@ -39,7 +39,7 @@ pub static FAMILIES: [Family; 14] = [
     Family { name: "noise", cases: 150_000, run: noise::run },
     Family { name: "lent", cases: 120_000, run: lent::run },
     Family { name: "lists", cases: 30_000, run: lists::run },
-    Family { name: "doubling", cases: 15_000, run: doubling::run },
+    Family { name: "doubling", cases: 8_000, run: doubling::run },
     Family { name: "pairing", cases: 20_000, run: pairing::run },
     Family { name: "two_runs", cases: 20_000, run: two_runs::run },
     Family { name: "steps", cases: 40_000, run: steps::run },
