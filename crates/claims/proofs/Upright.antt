@@ -1,11 +1,11 @@
--- Images without inverted pins: every call gives what reading their pins plainly gives; and images that were accepted before are such.
+-- Images without inverted pins: every call gives what reading their pins plainly gives; images that were accepted before are such; and others were refused by every call.
 use Prim.Native.Nat.{ℕ, _+_, _*_, _≤_, _<_}
 use native.Mathlib.Nat.{eq-or-lt-of-le}
 use native.Mathlib.Omega.{arith}
 use mathlib.Core.Logic.{⊎-elim}
 use mathlib.Core.Path.{_≡_, refl, sym, ap, _∙_}
 use mathlib.Core.List.{List}
-use mathlib.Core.Option.{Option, none}
+use mathlib.Core.Option.{Option, none, some}
 use lib.Dec.{ltb}
 use Rattle.image.specs.declared.image.Net.{Net}
 use Rattle.image.specs.Image.{sizesOf, net, netsOf}
@@ -24,7 +24,7 @@ use Rattle.doubling.specs.Doubling.{doubleRefusal, doubleOf}
 use Rattle.doubling.proofs.Checks.{doubled-checked, double-none, double-refused, double-accepted}
 use Rattle.claims.specs.Reading.{netOf}
 use Rattle.claims.specs.Plain.{plainNetRefusal, plainNetsRefusal, plainCheck, plainPowerUp, plainStep, plainRun, plainImage, plainSize, plainDouble}
-use Rattle.claims.specs.Upright.{Upright, AllUpright, AsBefore, Uprights}
+use Rattle.claims.specs.Upright.{Upright, AllUpright, AsBefore, RefusedBefore, Uprights}
 use Rattle.claims.proofs.Accepted.{conditions}
 use Rattle.claims.proofs.InTurn.{InTurn, none-drawn}
 use Rattle.claims.proofs.Plainly.{check-same, accepted-plain, AllPlain, cycle-plain, cycles-plain, groups-plain, image-plain, recheck-same}
@@ -133,5 +133,23 @@ accepted-upright s h i l =
     let t = simp accepted at h in
     net-upright (sizesOf s .nets) i (netOf s i) (t .1 .0 .1) l (none-drawn (net 0 0 0 0) (plain-in-turn _) (netsOf s) (t .1 .1 .1 .0) i (omega (arith, length-nets s)))
 
+-- IMAGES REFUSED BEFORE
+refused-before : (s : List ℕ) (r : Refusal) → plainCheck s ≡ some r → RefusedBefore s r
+unfolding plainPowerUp plainStep plainRun plainSize plainDouble
+refused-before s r h =
+    record {
+      power-up = λ st. rw (h, plainPowerUp);
+      step = λ st row nets. rw (h, plainStep);
+      run = λ st k rows outputs. rw (h, plainRun);
+      doubled-size = rw (h, plainSize);
+      double = λ buf. rw (h, plainDouble);
+    }
+
 pub upright : Uprights
-upright = record { same = as-before; before = accepted-upright; accepted-before = λ s h. as-before s (accepted-upright s h) }
+upright =
+    record {
+      same = as-before;
+      before = accepted-upright;
+      accepted-before = λ s h. as-before s (accepted-upright s h);
+      refused-before = refused-before;
+    }

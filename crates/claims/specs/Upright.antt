@@ -2,12 +2,13 @@
 use Prim.Native.Nat.{ℕ, _≤_, _<_}
 use mathlib.Core.Path.{_≡_}
 use mathlib.Core.List.{List}
-use mathlib.Core.Option.{none}
+use mathlib.Core.Option.{none, some}
 use Rattle.image.specs.declared.image.Net.{Net}
 use Rattle.image.specs.Image.{sizesOf}
+use Rattle.refusals.specs.declared.answer.Refusal.{Refusal}
 use Rattle.checking.specs.Check.{checkRefusal}
-use Rattle.cycle.specs.Calls.{powerUpOf, stepOf, runOf}
-use Rattle.figures.specs.Figures.{doubledSizeOf}
+use Rattle.cycle.specs.Calls.{refused, powerUpOf, stepOf, runOf}
+use Rattle.figures.specs.Figures.{noFigures, doubledSizeOf}
 use Rattle.doubling.specs.Doubling.{doubleOf}
 use Rattle.claims.specs.Reading.{netOf}
 use Rattle.claims.specs.Plain.{plainCheck, plainPowerUp, plainStep, plainRun, plainSize, plainDouble}
@@ -31,9 +32,19 @@ pub record AsBefore (s : List ℕ) : Type 0 where
   pub doubled-size : doubledSizeOf s ≡ plainSize s
   pub double : (buf : List ℕ) → doubleOf s buf ≡ plainDouble s buf
 
+-- every call on the image s gave the refusal r before, and left every lent byte
+pub record RefusedBefore (s : List ℕ) (r : Refusal) : Type 0 where
+  pub power-up : (st : List ℕ) → plainPowerUp s st ≡ record { refusal = some r; state = st }
+  pub step : (st row nets : List ℕ) → plainStep s st row nets ≡ record { answer = refused r; state = st; nets = nets }
+  pub run : (st : List ℕ) (k : ℕ) (rows outputs : List ℕ) → plainRun s st k rows outputs ≡ record { answer = refused r; state = st; outputs = outputs }
+  pub doubled-size : plainSize s ≡ noFigures r
+  pub double : (buf : List ℕ) → plainDouble s buf ≡ record { refusal = some r; buffer = buf }
+
 -- proved as `upright`
 pub record Uprights : Type 0 where
   pub same : (s : List ℕ) → AllUpright s → AsBefore s
   -- an image that was accepted before has no pin with the bit, and so gives the same bytes
   pub before : (s : List ℕ) → plainCheck s ≡ none → AllUpright s
   pub accepted-before : (s : List ℕ) → plainCheck s ≡ none → AsBefore s
+  -- an image that was refused before, as each with the bit on a pin was, was refused by every call. So what a call gave before follows, for every image, from what checking gave
+  pub refused-before : (s : List ℕ) (r : Refusal) → plainCheck s ≡ some r → RefusedBefore s r

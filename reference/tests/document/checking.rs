@@ -21,6 +21,19 @@ pub fn refuses(entry: Entry, number: u32) {
     assert_eq!(check(&third(entry)), refused(number, 2), "{entry:?}");
 }
 
+/// A gate and an OUT as net 2 are refused with this pin, at each of their pins.
+pub fn refuses_pin(bad: u16) {
+    refuses((NOT, bad, 0, 0), 5);
+    refuses((OUT, bad, 0, 0), 5);
+    for kind in [AND, OR, XOR] {
+        refuses((kind, bad, 0, 0), 5);
+        refuses((kind, 0, bad, 0), 5);
+    }
+    refuses((MUX, bad, 0, 0), 5);
+    refuses((MUX, 0, bad, 0), 5);
+    refuses((MUX, 0, 0, bad), 5);
+}
+
 #[test]
 fn kinds_0_to_8_are_accepted_and_those_above_refused() {
     for kind in 0..=8 {
@@ -35,15 +48,7 @@ fn kinds_0_to_8_are_accepted_and_those_above_refused() {
 #[test]
 fn a_pin_names_a_net_below_its_own() {
     for bad in [2, 3, 258, 256, 65535] {
-        refuses((NOT, bad, 0, 0), 5);
-        refuses((OUT, bad, 0, 0), 5);
-        for kind in [AND, OR, XOR] {
-            refuses((kind, bad, 0, 0), 5);
-            refuses((kind, 0, bad, 0), 5);
-        }
-        refuses((MUX, bad, 0, 0), 5);
-        refuses((MUX, 0, bad, 0), 5);
-        refuses((MUX, 0, 0, bad), 5);
+        refuses_pin(bad);
     }
     accepts((NOT, 1, 0, 0));
     accepts((OUT, 1, 0, 0));
