@@ -1,10 +1,10 @@
 //! The answers of the calls: refusals, verdicts and a run's first flow.
 
 /// A call that turns back answers with the number of the condition in the
-/// table of document 01 and a place.
+/// table of document 01, or with 18 of request L4 of document 02, and a place.
 ///
-/// The place is the net for 4 to 7, the index of the first bad byte for 11 and
-/// 13, and 0 for every other number.
+/// The place is the net for 4 to 7, the index of the first bad byte for 11, 13
+/// and 18, and 0 for every other number.
 #[derive(Debug, Clone, Copy, PartialEq, Eq)]
 pub struct Refusal {
     pub number: u32,
@@ -12,7 +12,7 @@ pub struct Refusal {
 }
 
 impl Refusal {
-    /// A refusal with a place: a net for 4 to 7, an index for 11 and 13.
+    /// A refusal with a place: a net for 4 to 7, an index for 11, 13 and 18.
     pub(crate) fn at(number: u32, place: usize) -> Refusal {
         Refusal { number, place }
     }

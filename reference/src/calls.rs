@@ -5,21 +5,19 @@
 
 use crate::answers::{FirstFlow, Refusal, Verdict};
 use crate::check::check;
-use crate::cycle::{output_bytes, power_up_state, work_out};
+use crate::cycle::{output_bytes, power_up_state, start_byte, work_out};
+use crate::gates::{Gates, GATES_ON_BYTES};
+use crate::lent::{
+    check_buffer_length, check_bytes, check_cycles, check_row_length, check_state_length,
+};
 use crate::netlist::Netlist;
-
-/// A run takes 0 to 4,096 cycles.
-pub const MOST_CYCLES: usize = 4096;
-
-/// The largest byte that holds a value and a mark.
-const LARGEST_BYTE: u8 = 3;
 
 /// Sets the registers to power-up. What the state buffer held is ignored, so
 /// this call meets 1 to 8 and 10, but not 11.
 pub fn power_up(image: &[u8], state: &mut [u8]) -> Result<(), Refusal> {
     let netlist = check(image)?;
     check_state_length(&netlist, state)?;
-    state.copy_from_slice(&power_up_state(&netlist));
+    state.copy_from_slice(&power_up_state(&netlist, start_byte));
     Ok(())
 }
 
@@ -32,12 +30,12 @@ pub fn step(
     nets: &mut [u8],
 ) -> Result<Verdict, Refusal> {
     let netlist = check(image)?;
-    check_state(&netlist, state)?;
-    check_rows(row, netlist.inputs)?;
-    if nets.len() != netlist.nets.len() {
-        return Err(Refusal::plain(14));
-    }
-    let cycle = work_out(&netlist, state, row);
+    check_state_length(&netlist, state)?;
+    check_bytes(state, is_above_3, 11)?;
+    check_row_length(row, netlist.inputs)?;
+    check_bytes(row, is_above_3, 13)?;
+    check_buffer_length(nets, netlist.nets.len())?;
+    let cycle = work_out(&netlist, &GATES_ON_BYTES, state, row);
     nets.copy_from_slice(&cycle.nets);
     state.copy_from_slice(&cycle.state);
     Ok(cycle.verdict)
@@ -53,24 +51,28 @@ pub fn run(
     outputs: &mut [u8],
 ) -> Result<FirstFlow, Refusal> {
     let netlist = check(image)?;
-    // K is tested before any product with K. From here on a product with K is
-    // at most 4,096 * 8,192 and does not overflow.
-    if k > MOST_CYCLES {
-        return Err(Refusal::plain(9));
-    }
-    check_state(&netlist, state)?;
-    check_rows(rows, k * netlist.inputs)?;
-    if outputs.len() != k * netlist.outputs {
-        return Err(Refusal::plain(14));
-    }
-    Ok(run_cycles(&netlist, k, state, rows, outputs))
+    check_cycles(k)?;
+    check_state_length(&netlist, state)?;
+    check_bytes(state, is_above_3, 11)?;
+    check_row_length(rows, k * netlist.inputs)?;
+    check_bytes(rows, is_above_3, 13)?;
+    check_buffer_length(outputs, k * netlist.outputs)?;
+    Ok(run_cycles(
+        &netlist,
+        &GATES_ON_BYTES,
+        k,
+        state,
+        rows,
+        outputs,
+    ))
 }
 
 /// The cycles of a run that drew no refusal. It goes on to the end after a flow
 /// and answers with the first one. With I = 0 each row is empty and the cycles
 /// are counted all the same.
-fn run_cycles(
+pub(crate) fn run_cycles(
     netlist: &Netlist,
+    gates: &Gates,
     k: usize,
     state: &mut [u8],
     rows: &[u8],
@@ -84,7 +86,7 @@ fn run_cycles(
     };
     for number in 0..k {
         let row = &rows[number * i..(number + 1) * i];
-        let cycle = work_out(netlist, state, row);
+        let cycle = work_out(netlist, gates, state, row);
         let bytes = output_bytes(netlist, &cycle.nets);
         outputs[number * o..(number + 1) * o].copy_from_slice(&bytes);
         state.copy_from_slice(&cycle.state);
@@ -98,41 +100,7 @@ fn run_cycles(
     first
 }
 
-/// Refusal 10: the state length is not R.
-fn check_state_length(netlist: &Netlist, state: &[u8]) -> Result<(), Refusal> {
-    if state.len() != netlist.registers {
-        return Err(Refusal::plain(10));
-    }
-    Ok(())
-}
-
-/// Refusals 10 and 11. The place of 11 is the index of the first bad byte.
-fn check_state(netlist: &Netlist, state: &[u8]) -> Result<(), Refusal> {
-    check_state_length(netlist, state)?;
-    match first_bad_byte(state) {
-        Some(index) => Err(Refusal::at(11, index)),
-        None => Ok(()),
-    }
-}
-
-/// Refusals 12 and 13. The place of 13 is the index of the first bad byte. In a
-/// run it is counted through all K * I row bytes.
-fn check_rows(rows: &[u8], length: usize) -> Result<(), Refusal> {
-    if rows.len() != length {
-        return Err(Refusal::plain(12));
-    }
-    match first_bad_byte(rows) {
-        Some(index) => Err(Refusal::at(13, index)),
-        None => Ok(()),
-    }
-}
-
-/// The index of the first byte above 3, if there is one.
-fn first_bad_byte(bytes: &[u8]) -> Option<usize> {
-    for (index, byte) in bytes.iter().enumerate() {
-        if *byte > LARGEST_BYTE {
-            return Some(index);
-        }
-    }
-    None
+/// A byte above 3 holds no value and mark. It draws 11 in a state and 13 in rows.
+fn is_above_3(byte: u8) -> bool {
+    byte > 3
 }

@@ -1,11 +1,12 @@
 //! The cycle rules of document 01: power-up, the nets, the verdict, the clock.
 //! Power-up follows request L2 of document 02, and what a pin reads follows
 //! request L3.
+//!
+//! The rules of the gates are handed to a cycle, and those of the starts to
+//! power-up, since a static run (request L4) has the same cycle with its own.
 
 use crate::answers::Verdict;
-use crate::gates::{
-    and_byte, const_byte, is_marked, mux_byte, net_byte, not_byte, or_byte, xor_byte,
-};
+use crate::gates::{const_byte, is_marked, net_byte, Gates};
 use crate::netlist::{Net, Netlist, Pin, Policy, Start};
 
 /// What one cycle gives: all net bytes, the verdict, and the state after the
@@ -16,13 +17,13 @@ pub(crate) struct Cycle {
     pub state: Vec<u8>,
 }
 
-/// The state at power-up. Each register takes the byte of its start, in net
-/// order.
-pub(crate) fn power_up_state(netlist: &Netlist) -> Vec<u8> {
+/// The state at power-up. Each register takes what the rule gives for its start,
+/// in net order.
+pub(crate) fn power_up_state(netlist: &Netlist, rule: fn(Start) -> u8) -> Vec<u8> {
     let mut state = Vec::new();
     for net in &netlist.nets {
         if let Net::Reg(_, start) = net {
-            state.push(start_byte(*start));
+            state.push(rule(*start));
         }
     }
     state
@@ -30,7 +31,7 @@ pub(crate) fn power_up_state(netlist: &Netlist) -> Vec<u8> {
 
 /// The byte with which a register starts. A start value that is given has mark
 /// 0. Where none is given, the register wakes unknown: value 0 and mark 1.
-fn start_byte(start: Start) -> u8 {
+pub(crate) fn start_byte(start: Start) -> u8 {
     match start {
         Start::Zero => net_byte(false, false),
         Start::One => net_byte(true, false),
@@ -40,10 +41,10 @@ fn start_byte(start: Start) -> u8 {
 
 /// One cycle works out all nets, gives the verdict, and then every register
 /// takes the byte that its pin reads.
-pub(crate) fn work_out(netlist: &Netlist, state: &[u8], row: &[u8]) -> Cycle {
-    let nets = net_bytes(netlist, state, row);
+pub(crate) fn work_out(netlist: &Netlist, gates: &Gates, state: &[u8], row: &[u8]) -> Cycle {
+    let nets = net_bytes(netlist, gates, state, row);
     let verdict = verdict(netlist, &nets);
-    let state = clock(netlist, &nets);
+    let state = clock(netlist, gates, &nets);
     Cycle {
         nets,
         verdict,
@@ -53,10 +54,10 @@ pub(crate) fn work_out(netlist: &Netlist, state: &[u8], row: &[u8]) -> Cycle {
 
 /// The byte that a pin reads. It is that of the pin's net, and if the pin is
 /// inverted, it has the other value and the same mark, as NOT of the net has.
-fn read(nets: &[u8], pin: Pin) -> u8 {
+fn read(nets: &[u8], gates: &Gates, pin: Pin) -> u8 {
     let byte = nets[pin.net];
     if pin.inverted {
-        not_byte(byte)
+        (gates.not)(byte)
     } else {
         byte
     }
@@ -65,11 +66,12 @@ fn read(nets: &[u8], pin: Pin) -> u8 {
 /// The bytes of all nets, worked out in net order. The pins of a gate and of an
 /// OUT name nets below their own number, so those bytes are there already. A
 /// REG shows its state byte, and its pin is read at the clock alone.
-fn net_bytes(netlist: &Netlist, state: &[u8], row: &[u8]) -> Vec<u8> {
+fn net_bytes(netlist: &Netlist, gates: &Gates, state: &[u8], row: &[u8]) -> Vec<u8> {
     let mut nets: Vec<u8> = Vec::new();
     let mut input = 0;
     let mut register = 0;
     for net in &netlist.nets {
+        let at = |pin: Pin| read(&nets, gates, pin);
         let byte = match *net {
             Net::Const(value) => const_byte(value),
             Net::Input => {
@@ -80,12 +82,12 @@ fn net_bytes(netlist: &Netlist, state: &[u8], row: &[u8]) -> Vec<u8> {
                 register += 1;
                 state[register - 1]
             }
-            Net::Not(a) => not_byte(read(&nets, a)),
-            Net::And(a, b) => and_byte(read(&nets, a), read(&nets, b)),
-            Net::Or(a, b) => or_byte(read(&nets, a), read(&nets, b)),
-            Net::Xor(a, b) => xor_byte(read(&nets, a), read(&nets, b)),
-            Net::Mux(a, b, c) => mux_byte(read(&nets, a), read(&nets, b), read(&nets, c)),
-            Net::Out(a, _) => read(&nets, a),
+            Net::Not(a) => (gates.not)(at(a)),
+            Net::And(a, b) => (gates.and)(at(a), at(b)),
+            Net::Or(a, b) => (gates.or)(at(a), at(b)),
+            Net::Xor(a, b) => (gates.xor)(at(a), at(b)),
+            Net::Mux(a, b, c) => (gates.mux)(at(a), at(b), at(c)),
+            Net::Out(a, _) => at(a),
         };
         nets.push(byte);
     }
@@ -107,11 +109,11 @@ fn verdict(netlist: &Netlist, nets: &[u8]) -> Verdict {
 
 /// The state after the clock. Every register takes the byte that its pin reads,
 /// all together: only the net bytes of this cycle are read.
-fn clock(netlist: &Netlist, nets: &[u8]) -> Vec<u8> {
+fn clock(netlist: &Netlist, gates: &Gates, nets: &[u8]) -> Vec<u8> {
     let mut state = Vec::new();
     for net in &netlist.nets {
         if let Net::Reg(pin, _) = net {
-            state.push(read(nets, *pin));
+            state.push(read(nets, gates, *pin));
         }
     }
     state

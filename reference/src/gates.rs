@@ -4,8 +4,27 @@
 //! calls pass only bytes 0 to 3 to these functions. Of any other byte the two
 //! low bits alone are read.
 
+/// What each gate gives for the bytes of its pins. A cycle works its nets out by
+/// such a set of rules.
+pub(crate) struct Gates {
+    pub not: fn(u8) -> u8,
+    pub and: fn(u8, u8) -> u8,
+    pub or: fn(u8, u8) -> u8,
+    pub xor: fn(u8, u8) -> u8,
+    pub mux: fn(u8, u8, u8) -> u8,
+}
+
+/// The rules of document 01.
+pub(crate) const GATES_ON_BYTES: Gates = Gates {
+    not: not_byte,
+    and: and_byte,
+    or: or_byte,
+    xor: xor_byte,
+    mux: mux_byte,
+};
+
 /// The value of a net byte.
-fn value(byte: u8) -> bool {
+pub(crate) fn value(byte: u8) -> bool {
     byte % 2 == 1
 }
 
@@ -24,7 +43,8 @@ pub(crate) fn const_byte(value: bool) -> u8 {
     net_byte(value, false)
 }
 
-/// The mark of byte is 1.
+/// The mark of byte is 1. The codes of a static run (request L4 of document 02)
+/// have their mark in the same bit: 4 is not marked and 6 is.
 pub(crate) fn is_marked(byte: u8) -> bool {
     mark(byte)
 }

@@ -15,7 +15,7 @@ use Rattle.image.specs.Image.{sizesOf, netsOf}
 use Rattle.image.proofs.Pairs.{pairs-getD}
 use Rattle.image.proofs.Nets.{length-nets}
 use Rattle.checking.proofs.Checked.{check-none}
-use Rattle.cycle.specs.Cycle.{Verdict, clear, cycleOf, cyclesOf, outputsOf, FirstFlow, firstFlow}
+use Rattle.cycle.specs.Cycle.{plain, Verdict, clear, cycleOf, cyclesOf, outputsOf, FirstFlow, firstFlow}
 use Rattle.cycle.specs.Calls.{done, asRun, runOf}
 use Rattle.cycle.proofs.Calls.{Ready, run-none, run-accepted, first-ready, rest-ready}
 use Rattle.claims.specs.NetBytes.{netOf, placeOf}
@@ -59,10 +59,10 @@ module _ (s : List ℕ) (i : ℕ) (l : i < sizesOf s .nets) (out : netOf s i .ki
   abbrev at : (c : ℕ) → ℕ
   at c = c * sizesOf s .outputs + placeOf OUT s i
 
-  first-unmarked : (row st rest : List ℕ) → Ready s st (sizesOf s .inputs) row → cycleOf (netsOf s) row st .verdict ≡ clear
-      → getD (cycleOf (netsOf s) row st .outputs ++ rest) (placeOf OUT s i) 0 / 2 % 2 ≡ 0
+  first-unmarked : (row st rest : List ℕ) → Ready s st (sizesOf s .inputs) row → cycleOf plain (netsOf s) row st .verdict ≡ clear
+      → getD (cycleOf plain (netsOf s) row st .outputs ++ rest) (placeOf OUT s i) 0 / 2 % 2 ≡ 0
   first-unmarked row st rest r e =
-      let o = cycleOf (netsOf s) row st in
+      let o = cycleOf plain (netsOf s) row st in
       let b = net-bytes s row st (check-none s .1 (r .image)) (r .size) (r .state .size) .output-byte i l out in
       rw (List·getD-append (o .outputs) rest 0 (placeOf OUT s i) (b .below), b .byte)
       (unmarked s (o .bytes) (verdicts (netsOf s) row st) e i l out protected)
@@ -73,7 +73,7 @@ module _ (s : List ℕ) (i : ℕ) (l : i < sizesOf s .nets) (out : netOf s i .ki
       rw e (getD-append-add xs rest (at c) 0)
 
   all-unmarked : (k : ℕ) (rows st : List ℕ) → Ready s st (k * sizesOf s .inputs) rows
-      → let cs = cyclesOf (netsOf s) (sizesOf s .inputs) k rows st in
+      → let cs = cyclesOf plain (netsOf s) (sizesOf s .inputs) k rows st in
       ((c : ℕ) → c < k → getD (map (λ o. o .verdict) cs) c clear ≡ clear) → (c : ℕ) → c < k → getD (outputsOf cs) (at c) 0 / 2 % 2 ≡ 0
   unfolding cyclesOf outputsOf
   all-unmarked zero rows st r h c m = absurd (omega arith)
@@ -81,14 +81,14 @@ module _ (s : List ℕ) (i : ℕ) (l : i < sizesOf s .nets) (out : netOf s i .ki
       let e : at 0 ≡ placeOf OUT s i = omega arith in
       rw e (first-unmarked (take (sizesOf s .inputs) rows) st _ (first-ready k r) (h 0 m))
   all-unmarked (suc k) rows st r h (suc c) m =
-      let o = cycleOf (netsOf s) (take (sizesOf s .inputs) rows) st in
+      let o = cycleOf plain (netsOf s) (take (sizesOf s .inputs) rows) st in
       let f = first-ready k r in
       let n = net-bytes s (take (sizesOf s .inputs) rows) st (check-none s .1 (f .image)) (f .size) (f .state .size) .outputs in
-      rw (later-place (o .outputs) (outputsOf (cyclesOf (netsOf s) (sizesOf s .inputs) k (drop (sizesOf s .inputs) rows) (o .state))) c n)
+      rw (later-place (o .outputs) (outputsOf (cyclesOf plain (netsOf s) (sizesOf s .inputs) k (drop (sizesOf s .inputs) rows) (o .state))) c n)
       (all-unmarked k (drop (sizesOf s .inputs) rows) (o .state) (rest-ready k r) (λ d q. h (suc d) (omega arith)) c (omega arith))
 
 -- how many cycles there are
-pub cycles-length : (s : List ℕ) (k : ℕ) (rows st : List ℕ) → length (map (λ o. o .verdict) (cyclesOf (netsOf s) (sizesOf s .inputs) k rows st)) ≡ k
+pub cycles-length : (s : List ℕ) (k : ℕ) (rows st : List ℕ) → length (map (λ o. o .verdict) (cyclesOf plain (netsOf s) (sizesOf s .inputs) k rows st)) ≡ k
 unfolding cyclesOf
 cycles-length s zero rows st = refl
 cycles-length s (suc k) rows st = ap suc (cycles-length s k _ _)
@@ -101,7 +101,7 @@ unfolding asRun
 run-unmarked s st k rows outputs h c i m l out protected =
     let t = run-taken s st k rows outputs h in
     let e = run-accepted s st k rows outputs t in
-    let cs = cyclesOf (netsOf s) (sizesOf s .inputs) k rows st in
+    let cs = cyclesOf plain (netsOf s) (sizesOf s .inputs) k rows st in
     let f : done (firstFlow 0 cs) ≡ clearAfter k = rw e at h in
     let v : firstFlow 0 cs .verdict ≡ clear = cc in
     let each = clear-each (first-flows cs) v in

@@ -5,7 +5,7 @@ use mathlib.Core.List.{List, [], _∷_, map}
 use mathlib.Core.Option.{none, some}
 use Rattle.image.specs.Image.{sizesOf, netsOf}
 use Rattle.refusals.specs.declared.answer.Refusal.{Refusal}
-use Rattle.cycle.specs.Cycle.{cycleOf, cyclesOf, outputsOf, stateAfter, firstFlow}
+use Rattle.cycle.specs.Cycle.{plain, cycleOf, cyclesOf, outputsOf, stateAfter, firstFlow}
 use Rattle.cycle.specs.Calls.{done, refused, asStep, stepRefusal, asRun, runRefusal}
 use Rattle.cycle.proofs.Calls.{either-way, step-accepted, step-refused, run-accepted, run-refused}
 use Rattle.claims.specs.History.{Call, step, run, lent, refusalOf, CallAnswer, stepped, ran, callResult, history, accepted, cyclesIn, CallResult, TurnedBack, Made, AllMade, Histories}
@@ -30,14 +30,14 @@ made-refused s st (run k rows outputs) r h = rw (h, run-refused s st k rows outp
 
 pub made-step :
     (s st row nets : List ℕ) → stepRefusal s st row nets ≡ none
-    → let c = cycleOf (netsOf s) row st in
+    → let c = cycleOf plain (netsOf s) row st in
     callResult s st (step row nets) ≡ record { answer = stepped (done (c .verdict)); buffer = c .bytes; state = c .state; cycles = asStep c ∷ [] }
 unfolding callResult asStep
 made-step s st row nets h = rw (h, step-accepted s st row nets h)
 
 pub made-run :
     (s st : List ℕ) (k : ℕ) (rows outputs : List ℕ) → runRefusal s st k rows outputs ≡ none
-    → let cs = cyclesOf (netsOf s) (sizesOf s .inputs) k rows st in
+    → let cs = cyclesOf plain (netsOf s) (sizesOf s .inputs) k rows st in
     callResult s st (run k rows outputs) ≡ record { answer = ran (done (firstFlow 0 cs)); buffer = outputsOf cs; state = stateAfter st cs; cycles = map asStep cs }
 unfolding callResult asRun
 made-run s st k rows outputs h = rw (h, run-accepted s st k rows outputs h, run-is-steps s st k rows outputs h .cycles)

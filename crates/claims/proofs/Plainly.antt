@@ -23,7 +23,7 @@ use Rattle.net_checking.specs.NetCheck.{badPin, netRefusal}
 use Rattle.net_checking.proofs.Passes.{Passes, is-const, is-input, is-reg, is-not, is-and, is-or, is-xor, is-mux, is-out}
 use Rattle.checking.specs.Check.{netsRefusal, checkRefusal}
 use Rattle.checking.proofs.Checked.{AllPass, nil, cons, Checked, check-none}
-use Rattle.cycle.specs.Cycle.{Walk, pinByte, netByte, past, walk, bytesOf, registers, clocked, cycleOf, cyclesOf}
+use Rattle.cycle.specs.Cycle.{plain, Walk, pinByte, netByte, past, walk, bytesOf, registers, clocked, cycleOf, cyclesOf}
 use Rattle.cycle.proofs.Ruling.{plain-reads}
 use Rattle.groups.specs.Groups.{groupOf, markStart}
 use Rattle.groups.proofs.Groups.{mark-start-code}
@@ -116,11 +116,11 @@ bytes-plain : {xs : List Net} → AllPlain xs → (row st : List ℕ) → bytesO
 unfolding bytesOf
 bytes-plain ps row st = ap (λ w. w .bytes) (walk-plain ps (record { bytes = []; row = row; state = st }))
 
-pub cycle-plain : {xs : List Net} → AllPlain xs → (row st : List ℕ) → cycleOf xs row st ≡ plainCycle xs row st
+pub cycle-plain : {xs : List Net} → AllPlain xs → (row st : List ℕ) → cycleOf plain xs row st ≡ plainCycle xs row st
 unfolding cycleOf clocked plainCycle
 cycle-plain {xs} ps row st = rw (bytes-plain ps row st, clock-plain ps (plainWalk xs (record { bytes = []; row = row; state = st }) .bytes))
 
-pub cycles-plain : {xs : List Net} → AllPlain xs → (i k : ℕ) (rows st : List ℕ) → cyclesOf xs i k rows st ≡ plainCycles xs i k rows st
+pub cycles-plain : {xs : List Net} → AllPlain xs → (i k : ℕ) (rows st : List ℕ) → cyclesOf plain xs i k rows st ≡ plainCycles xs i k rows st
 unfolding cyclesOf plainCycles
 cycles-plain ps i zero rows st = refl
 cycles-plain ps i (suc k) rows st = rw (cycle-plain ps, cycles-plain ps i k)

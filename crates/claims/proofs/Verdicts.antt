@@ -73,7 +73,7 @@ step i x xs bs true h rest =
     lowest-from 0 (sym e) (record { below = omega arith; here = rw e (passed x _ h) }) (λ k l g. absurd (omega arith))
 step i x xs bs false h rest = over h rest
 
-judged-from : (i : ℕ) (xs : List Net) (bs : List ℕ) → JudgedFrom i xs bs (verdictFrom i xs bs)
+judged-from : (i : ℕ) (xs : List Net) (bs : List ℕ) → JudgedFrom i xs bs (verdictFrom mark i xs bs)
 unfolding verdictFrom
 judged-from i [] bs = none-from (λ j f. absurd (omega (arith, f .below)))
 judged-from i (x ∷ xs) bs = step i x xs bs (test x (getD bs i 0)) refl (judged-from (suc i) xs bs)

@@ -10,7 +10,7 @@ use Rattle.image.specs.declared.image.Net.{Net}
 use Rattle.image.specs.Image.{sizesOf, net, netsOf, count}
 use Rattle.image.specs.Pins.{pinNet}
 use Rattle.checking.specs.Check.{checkRefusal}
-use Rattle.cycle.specs.Cycle.{pinByte, Cycle, cycleOf}
+use Rattle.cycle.specs.Cycle.{plain, pinByte, Cycle, cycleOf}
 use Rattle.cycle.specs.Calls.{stateLength}
 pub use Rattle.claims.specs.Reading.{netOf}
 
@@ -55,7 +55,7 @@ pub record NetBytes (s row st : List ℕ) (c : Cycle) : Type 0 where
 abbrev pub NetBytesAll : Type 0
 NetBytesAll =
     (s row st : List ℕ) → checkRefusal s ≡ none → length row ≡ sizesOf s .inputs → length st ≡ stateLength (sizesOf s)
-    → NetBytes s row st (cycleOf (netsOf s) row st)
+    → NetBytes s row st (cycleOf plain (netsOf s) row st)
 
 -- and no other bytes are such: N bytes of which each is the one that its net may have are the bytes of the cycle, in whatever order they were worked out.
 -- Proved as `ruled-bytes`
@@ -63,4 +63,4 @@ abbrev pub RuledBytesAll : Type 0
 RuledBytesAll =
     (s row st bs : List ℕ) → checkRefusal s ≡ none → length bs ≡ sizesOf s .nets
     → ((i : ℕ) → i < sizesOf s .nets → HasByte s row st bs i (netOf s i) (getD bs i 0))
-    → bs ≡ cycleOf (netsOf s) row st .bytes
+    → bs ≡ cycleOf plain (netsOf s) row st .bytes

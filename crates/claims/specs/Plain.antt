@@ -85,7 +85,7 @@ plainWalk (x ∷ xs) w = plainWalk xs (plainPast x w)
 unfoldable pub plainCycle : List Net → (row state : List ℕ) → Cycle
 plainCycle xs row state =
     let bs = plainWalk xs (record { bytes = []; row = row; state = state }) .bytes in
-    record { bytes = bs; verdict = verdictFrom 0 xs bs; outputs = outputsFrom 0 xs bs; state = registers (λ x. getD bs (x .a) 0) xs }
+    record { bytes = bs; verdict = verdictFrom mark 0 xs bs; outputs = outputsFrom 0 xs bs; state = registers (λ x. getD bs (x .a) 0) xs }
 
 unfoldable pub plainCycles : List Net → (inputs k : ℕ) → (rows state : List ℕ) → List Cycle
 plainCycles xs inputs zero rows state = []

@@ -9,7 +9,7 @@ use Rattle.gates.specs.Rules.{mark}
 use Rattle.gates.specs.Relations.{AgreeByte}
 use Rattle.image.specs.declared.image.Net.{Net}
 use Rattle.image.specs.Image.{sizesOf, netsOf, count}
-use Rattle.cycle.specs.Cycle.{cycleOf, outputsFrom}
+use Rattle.cycle.specs.Cycle.{plain, cycleOf, outputsFrom}
 use Rattle.doubled.specs.Doubled.{doubledSize, valueNet}
 
 -- proved as `terms`
@@ -25,6 +25,6 @@ pub record Terms : Type 0 where
   -- every byte agrees with itself, also one above 3
   pub same : (x : ℕ) → AgreeByte x x
   -- the outputs that are taken from the net bytes of a cycle are its outputs
-  pub outputs : (xs : List Net) (row st : List ℕ) → outputsFrom 0 xs (cycleOf xs row st .bytes) ≡ cycleOf xs row st .outputs
+  pub outputs : (xs : List Net) (row st : List ℕ) → outputsFrom 0 xs (cycleOf plain xs row st .bytes) ≡ cycleOf plain xs row st .outputs
   -- the doubled size is where the groups end
   pub size : (s : List ℕ) → doubledSize (netsOf s) ≡ valueNet (netsOf s) (sizesOf s .nets)

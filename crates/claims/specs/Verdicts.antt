@@ -8,7 +8,7 @@ use Rattle.gates.specs.Kinds.{OUT}
 use Rattle.gates.specs.Rules.{mark}
 use Rattle.image.specs.declared.image.Net.{Net}
 use Rattle.image.specs.Image.{net}
-use Rattle.cycle.specs.Cycle.{Verdict, clear, flow, Cycle, cycleOf, FirstFlow, firstFlow}
+use Rattle.cycle.specs.Cycle.{plain, Verdict, clear, flow, Cycle, cycleOf, FirstFlow, firstFlow}
 
 -- net i is a protected OUT with mark 1, by the bytes bs of all nets
 pub record MarkedOutput (xs : List Net) (bs : List ℕ) (i : ℕ) : Type 0 where
@@ -24,7 +24,7 @@ pub data Judged (xs : List Net) (bs : List ℕ) : Verdict → Type 0 where
 
 -- proved as `verdicts`
 abbrev pub Verdicts : Type 0
-Verdicts = (xs : List Net) (row state : List ℕ) → Judged xs (cycleOf xs row state .bytes) (cycleOf xs row state .verdict)
+Verdicts = (xs : List Net) (row state : List ℕ) → Judged xs (cycleOf plain xs row state .bytes) (cycleOf plain xs row state .verdict)
 
 -- the first flow among verdicts, one a cycle: clear with the number of cycles where all are clear, and else the first cycle with a flow, and that flow
 pub data First (vs : List Verdict) : FirstFlow → Type 0 where

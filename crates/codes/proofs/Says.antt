@@ -11,7 +11,7 @@ use Rattle.image.specs.Image.{sizesOf, netsOf, count}
 use Rattle.refusals.specs.declared.answer.Refusal.{Refusal}
 use Rattle.refusals.proofs.Refusals.{length-none}
 use Rattle.checking.proofs.Checked.{check-none}
-use Rattle.cycle.specs.Cycle.{Verdict, clear, flow, cyclesOf, FirstFlow, firstFlow}
+use Rattle.cycle.specs.Cycle.{plain, Verdict, clear, flow, cyclesOf, FirstFlow, firstFlow}
 use Rattle.cycle.specs.Calls.{Answer, done, refused, asStep, asRun, stepRefusal, stepOf, runOf}
 use Rattle.cycle.proofs.Calls.{either-way, step-accepted, step-refused, run-accepted}
 use Rattle.figures.specs.Figures.{doubledSizeOf}
@@ -98,7 +98,7 @@ clear-answer : (s st : List ℕ) (k : ℕ) (rows outputs : List ℕ) (f : FirstF
 unfolding asRun
 clear-answer s st k rows outputs f h e =
     let a = run-accepted s st k rows outputs (run-taken s st k rows outputs h) in
-    let cs = cyclesOf (netsOf s) (sizesOf s .inputs) k rows st in
+    let cs = cyclesOf plain (netsOf s) (sizesOf s .inputs) k rows st in
     let g : done (firstFlow 0 cs) ≡ done f = rw a at h in
     let v : firstFlow 0 cs .verdict ≡ clear = cc in
     rw (a, clear-cycle (promised .first-flows cs) v, cycles-length s k rows st)

@@ -7,7 +7,7 @@ use mathlib.Core.Option.{Option, none}
 use lib.ListN.{getD, take, drop}
 use Rattle.image.specs.Image.{sizesOf, netsOf}
 use Rattle.refusals.specs.declared.answer.Refusal.{Refusal}
-use Rattle.cycle.specs.Cycle.{Verdict, clear, flow, cycleOf, cyclesOf, FirstFlow, firstOf, firstFlow}
+use Rattle.cycle.specs.Cycle.{plain, Verdict, clear, flow, cycleOf, cyclesOf, FirstFlow, firstOf, firstFlow}
 use Rattle.cycle.specs.Calls.{Answer, done, refused, asStep, asRun, stepRefusal, stepOf, runRefusal, runOf}
 use Rattle.checking.proofs.Counting.{count-few}
 use Rattle.cycle.proofs.Calls.{either-way, step-accepted, step-refused, run-accepted, run-refused}
@@ -36,7 +36,7 @@ judged-names s a (lowest {i} m h) =
     let pin = a .nets i l .pins .a (omega (arith, m .out)) (omega (arith, m .out)) in
     names {i = i} (omega (arith, pin)) (omega (arith, a .sized .few-nets))
 
-verdict-names : (s : List ℕ) → AcceptedImage s → (row st : List ℕ) → Naming 8192 (cycleOf (netsOf s) row st .verdict)
+verdict-names : (s : List ℕ) → AcceptedImage s → (row st : List ℕ) → Naming 8192 (cycleOf plain (netsOf s) row st .verdict)
 verdict-names s a row st = judged-names s a (promised .verdicts (netsOf s) row st)
 
 -- a first flow among cycles up to the last one, with a verdict on n nets
@@ -50,12 +50,12 @@ first-among clear h l a = a
 first-among (flow net) h l a = record { cycle = h; verdict = l }
 
 flow-among :
-    (s : List ℕ) → AcceptedImage s → (inputs k i : ℕ) (rows st : List ℕ) → Among (i + k) 8192 (firstFlow i (cyclesOf (netsOf s) inputs k rows st))
+    (s : List ℕ) → AcceptedImage s → (inputs k i : ℕ) (rows st : List ℕ) → Among (i + k) 8192 (firstFlow i (cyclesOf plain (netsOf s) inputs k rows st))
 unfolding cyclesOf firstFlow
 flow-among s a inputs zero i rows st = record { cycle = omega arith; verdict = no-net }
 flow-among s a inputs (suc k) i rows st =
     let e : suc i + k ≡ i + suc k = omega arith in
-    let c = cycleOf (netsOf s) (take inputs rows) st in
+    let c = cycleOf plain (netsOf s) (take inputs rows) st in
     first-among (c .verdict) (omega arith) (verdict-names s a (take inputs rows) st)
     (rw e at (flow-among s a inputs k (suc i) (drop inputs rows) (c .state)))
 
@@ -70,7 +70,7 @@ step-answered s st row nets =
     either-way (stepRefusal s st row nets)
     (λ h.
     let a = promised .when-accepted .step s st row nets .0 h .0 in
-    rw (step-accepted s st row nets h) (gave (cycleOf (netsOf s) row st .verdict) (verdict-names s a row st)))
+    rw (step-accepted s st row nets h) (gave (cycleOf plain (netsOf s) row st .verdict) (verdict-names s a row st)))
     (λ r h. let e = step-refused s st row nets r h in rw e (turned-back (tabled s (table.step st row nets) r (rw e))))
 
 pub run-answered : (s st : List ℕ) (k : ℕ) (rows outputs : List ℕ) → Answered (Among 4096 8192) (runOf s st k rows outputs .answer)
@@ -81,7 +81,7 @@ run-answered s st k rows outputs =
     let n = promised .when-accepted .run s st k rows outputs .0 h in
     let a = flow-among s (n .0) (sizesOf s .inputs) k 0 rows st in
     rw (run-accepted s st k rows outputs h)
-    (gave (firstFlow 0 (cyclesOf (netsOf s) (sizesOf s .inputs) k rows st)) (record { cycle = omega (arith, a .cycle, n .1); verdict = a .verdict })))
+    (gave (firstFlow 0 (cyclesOf plain (netsOf s) (sizesOf s .inputs) k rows st)) (record { cycle = omega (arith, a .cycle, n .1); verdict = a .verdict })))
     (λ r h. let e = run-refused s st k rows outputs r h in rw e (turned-back (tabled s (table.run st k rows outputs) r (rw e))))
 
 -- THE FIGURES of the doubled netlist

@@ -20,10 +20,10 @@ module _ {n : ℕ} (bs cs : List ℕ) (alike : (j : ℕ) → j < n → getD bs j
   outputs-alike i [] h = refl
   outputs-alike i (x ∷ xs) h = rw (alike i (omega arith), outputs-alike (suc i) xs (omega arith))
 
-  pub verdict-alike : (i : ℕ) (xs : List Net) → i + length xs ≤ n → verdictFrom i xs bs ≡ verdictFrom i xs cs
+  pub verdict-alike : (marked : ℕ → Bool) (i : ℕ) (xs : List Net) → i + length xs ≤ n → verdictFrom marked i xs bs ≡ verdictFrom marked i xs cs
   unfolding verdictFrom
-  verdict-alike i [] h = refl
-  verdict-alike i (x ∷ xs) h = rw (alike i (omega arith), verdict-alike (suc i) xs (omega arith))
+  verdict-alike marked i [] h = refl
+  verdict-alike marked i (x ∷ xs) h = rw (alike i (omega arith), verdict-alike marked (suc i) xs (omega arith))
 
   pub clocked-alike : (rule : Rule) {i : ℕ} {xs : List Net} → AllPass n i xs → clocked rule xs bs ≡ clocked rule xs cs
   unfolding clocked registers

@@ -4,7 +4,7 @@ use native.Mathlib.Omega.{arith}
 use native.Mathlib.Nat.{suc-mul}
 use mathlib.Core.Logic.{_↔_}
 use mathlib.Core.Path.{_≡_, refl, sym, _∙_}
-use mathlib.Core.List.{List}
+use mathlib.Core.List.{List, Forall₂}
 use mathlib.Core.Option.{Option, none, some}
 use lib.Dec.{eqb}
 use lib.ListN.{length, take, drop, length-drop}
@@ -14,12 +14,12 @@ use Rattle.gates.proofs.Laws.{Code, byte-code}
 use Rattle.image.specs.Image.{sizesOf, netsOf}
 use Rattle.image.proofs.Pairs.{pairs-take, pairs-drop}
 use Rattle.refusals.specs.declared.answer.Refusal.{Refusal}
-use Rattle.refusals.proofs.Refusals.{accepted, Codes}
+use Rattle.refusals.proofs.Refusals.{accepted}
 use Rattle.checking.proofs.Checked.{Checked, check-none}
 use Rattle.cycle.specs.Codes.{Low}
-use Rattle.cycle.specs.Cycle.{bytesOf, clocked, cycleOf, cyclesOf, stateAfter}
+use Rattle.cycle.specs.Cycle.{Rules, plain, bytesOf, clocked, cycleOf, cyclesOf, stateAfter}
 use Rattle.cycle.specs.Calls.{stateLength, refused, start, starts, powerUpRefusal, powerUpOf, asStep, stepRefusal, stepOf, asRun, runRefusal, runOf}
-use Rattle.cycle.proofs.Cycles.{registers-related, registers-length, codes-cycle, low-codes}
+use Rattle.cycle.proofs.Cycles.{Kept, registers-related, cycle-related, AnyVerdicts, code-kept, registers-length, codes-cycle, low-codes}
 
 -- a refusal is given, or none
 pub either-way : {A : Type 0} (o : Option Refusal) → (o ≡ none → A) → ((r : Refusal) → o ≡ some r → A) → A
@@ -44,7 +44,7 @@ unfolding powerUpRefusal
 power-up-none s st = (λ h. simp (accepted, check-none) at h, λ h. simp (accepted, check-none) h)
 
 -- STEP
-pub step-accepted : (s st row nets : List ℕ) → stepRefusal s st row nets ≡ none → stepOf s st row nets ≡ asStep (cycleOf (netsOf s) row st)
+pub step-accepted : (s st row nets : List ℕ) → stepRefusal s st row nets ≡ none → stepOf s st row nets ≡ asStep (cycleOf plain (netsOf s) row st)
 unfolding stepOf
 step-accepted s st row nets h = rw (h, stepOf)
 
@@ -57,7 +57,7 @@ step-refused s st row nets r h = rw (h, stepOf)
 -- RUN
 pub run-accepted :
     (s st : List ℕ) (k : ℕ) (rows outputs : List ℕ) → runRefusal s st k rows outputs ≡ none
-    → runOf s st k rows outputs ≡ asRun st (cyclesOf (netsOf s) (sizesOf s .inputs) k rows st)
+    → runOf s st k rows outputs ≡ asRun st (cyclesOf plain (netsOf s) (sizesOf s .inputs) k rows st)
 unfolding runOf
 run-accepted s st k rows outputs h = rw (h, runOf)
 
@@ -67,16 +67,23 @@ pub run-refused :
 unfolding runOf
 run-refused s st k rows outputs r h = rw (h, runOf)
 
--- WHAT IS ACCEPTED. A state of an image, and n row bytes beside it
-pub record IsState (s st : List ℕ) : Type 0 where
+-- WHAT IS ACCEPTED. A state of an image whose bytes are in A, a relation that looks at its first byte alone; and n such row bytes beside it
+pub record StateOf (A : ℕ → ℕ → Type 0) (s st : List ℕ) : Type 0 where
   pub size : length st ≡ stateLength (sizesOf s)
-  pub codes : Codes st
+  pub codes : Forall₂ A st st
 
-pub record Ready (s st : List ℕ) (n : ℕ) (rows : List ℕ) : Type 0 where
+pub record ReadyOf (A : ℕ → ℕ → Type 0) (s st : List ℕ) (n : ℕ) (rows : List ℕ) : Type 0 where
   pub image : Checked s
-  pub state : IsState s st
+  pub state : StateOf A s st
   pub size : length rows ≡ n
-  pub codes : Codes rows
+  pub codes : Forall₂ A rows rows
+
+-- of plain calls: bytes 0 to 3
+abbrev pub IsState : (s st : List ℕ) → Type 0
+IsState = StateOf Code
+
+abbrev pub Ready : (s st : List ℕ) (n : ℕ) (rows : List ℕ) → Type 0
+Ready = ReadyOf Code
 
 pub step-none : (s st row nets : List ℕ) → (stepRefusal s st row nets ≡ none) ↔ (Ready s st (sizesOf s .inputs) row × (length nets ≡ sizesOf s .nets))
 unfolding stepRefusal
@@ -105,7 +112,7 @@ unfolding cycleOf
 worked-low r = low-codes (codes-cycle (r .image .nets) (r .codes) (r .state .codes) .bytes)
 
 -- power-up leaves a state, and so does a cycle
-start-code : (b : ℕ) → start b ≤ 3
+pub start-code : (b : ℕ) → start b ≤ 3
 unfolding start
 start-code b = byte-code (eqb b 1) (eqb b 2)
 
@@ -120,29 +127,44 @@ starts-state {s} c =
 pub powered-up : (s a : List ℕ) → Checked s → length a ≡ stateLength (sizesOf s) → powerUpOf s a ≡ record { refusal = none; state = starts (netsOf s) }
 powered-up s a c l = power-up-accepted s a (power-up-none s a .1 (c, l))
 
-pub cycle-state : {s st row : List ℕ} → Ready s st (sizesOf s .inputs) row → IsState s (cycleOf (netsOf s) row st .state)
-cycle-state {s} {st} {row} r =
-    record {
-      size = unfold cycleOf clocked in registers-length _ (netsOf s) ∙ sym (r .image .registers);
-      codes = codes-cycle (r .image .nets) (r .codes) (r .state .codes) .state;
-    }
+-- the first cycle of many
+pub first-ready : {A : ℕ → ℕ → Type 0} {s st : List ℕ} (k : ℕ) {rows : List ℕ} → ReadyOf A s st (suc k * sizesOf s .inputs) rows
+    → ReadyOf A s st (sizesOf s .inputs) (take (sizesOf s .inputs) rows)
+first-ready {s = s} k {rows} r =
+    let m = suc-mul k (sizesOf s .inputs) in
+    let l = r .size in
+    record { image = r .image; state = r .state; size = length-take-le (sizesOf s .inputs) rows (omega arith); codes = pairs-take (sizesOf s .inputs) (r .codes) }
 
--- the first cycle of many, and those after it
-module _ {s st : List ℕ} (k : ℕ) {rows : List ℕ} (r : Ready s st (suc k * sizesOf s .inputs) rows) where
-  pub first-ready : Ready s st (sizesOf s .inputs) (take (sizesOf s .inputs) rows)
-  first-ready =
+-- rules that keep bytes in A: what a cycle leaves, the cycles after the first, and what a run leaves
+module _ (rules : Rules) {A : ℕ → ℕ → Type 0} (kept : Kept (rules .gate) (rules .gate) A) where
+  pub cycle-leaves : {s st row : List ℕ} → ReadyOf A s st (sizesOf s .inputs) row → StateOf A s (cycleOf rules (netsOf s) row st .state)
+  cycle-leaves {s} {st} {row} r =
+      record {
+        size = unfold cycleOf clocked in registers-length _ (netsOf s) ∙ sym (r .image .registers);
+        codes = cycle-related rules rules {Q = AnyVerdicts} kept (λ i xs bs cs h. tt) (r .image .nets) (r .codes) (r .state .codes) .state;
+      }
+
+  pub rest-ready-by : {s st : List ℕ} (k : ℕ) {rows : List ℕ} → ReadyOf A s st (suc k * sizesOf s .inputs) rows
+      → ReadyOf A s (cycleOf rules (netsOf s) (take (sizesOf s .inputs) rows) st .state) (k * sizesOf s .inputs) (drop (sizesOf s .inputs) rows)
+  rest-ready-by {s} k r =
       let m = suc-mul k (sizesOf s .inputs) in
       let l = r .size in
-      record { image = r .image; state = r .state; size = length-take-le (sizesOf s .inputs) rows (omega arith); codes = pairs-take (sizesOf s .inputs) (r .codes) }
+      record { image = r .image; state = cycle-leaves (first-ready k r); size = simp length-drop (omega arith); codes = pairs-drop (sizesOf s .inputs) (r .codes) }
 
-  pub rest-ready : Ready s (cycleOf (netsOf s) (take (sizesOf s .inputs) rows) st .state) (k * sizesOf s .inputs) (drop (sizesOf s .inputs) rows)
-  rest-ready =
-      let m = suc-mul k (sizesOf s .inputs) in
-      let l = r .size in
-      record { image = r .image; state = cycle-state first-ready; size = simp length-drop (omega arith); codes = pairs-drop (sizesOf s .inputs) (r .codes) }
+  pub run-leaves : {s : List ℕ} (k : ℕ) {st rows : List ℕ} → ReadyOf A s st (k * sizesOf s .inputs) rows
+      → StateOf A s (stateAfter st (cyclesOf rules (netsOf s) (sizesOf s .inputs) k rows st))
+  unfolding cyclesOf stateAfter
+  run-leaves zero r = r .state
+  run-leaves (suc k) r = run-leaves k (rest-ready-by k r)
+
+-- of plain calls
+pub cycle-state : {s st row : List ℕ} → Ready s st (sizesOf s .inputs) row → IsState s (cycleOf plain (netsOf s) row st .state)
+cycle-state = cycle-leaves plain code-kept
+
+pub rest-ready : {s st : List ℕ} (k : ℕ) {rows : List ℕ} → Ready s st (suc k * sizesOf s .inputs) rows
+    → Ready s (cycleOf plain (netsOf s) (take (sizesOf s .inputs) rows) st .state) (k * sizesOf s .inputs) (drop (sizesOf s .inputs) rows)
+rest-ready = rest-ready-by plain code-kept
 
 pub run-state : {s : List ℕ} (k : ℕ) {st rows : List ℕ} → Ready s st (k * sizesOf s .inputs) rows
-    → IsState s (stateAfter st (cyclesOf (netsOf s) (sizesOf s .inputs) k rows st))
-unfolding cyclesOf stateAfter
-run-state zero r = r .state
-run-state (suc k) r = run-state k (rest-ready k r)
+    → IsState s (stateAfter st (cyclesOf plain (netsOf s) (sizesOf s .inputs) k rows st))
+run-state = run-leaves plain code-kept

@@ -10,7 +10,7 @@ use Rattle.image.specs.Image.{sizesOf, netsOf}
 use Rattle.refusals.specs.declared.answer.Refusal.{Refusal}
 use Rattle.refusals.specs.Refusals.{refuse, _then_, Alphabet, plainBytes, badByte, badLength}
 use Rattle.checking.specs.Check.{checkRefusal}
-use Rattle.cycle.specs.Cycle.{Verdict, registers, Cycle, cycleOf, cyclesOf, outputsOf, stateAfter, FirstFlow, firstFlow}
+use Rattle.cycle.specs.Cycle.{plain, Verdict, registers, Cycle, cycleOf, cyclesOf, outputsOf, stateAfter, FirstFlow, firstFlow}
 
 -- the length of a state: one byte for each register
 abbrev pub stateLength : Sizes → ℕ
@@ -73,7 +73,7 @@ stepRefusal s st row nets =
 unfoldable pub stepOf : (s st row nets : List ℕ) → Stepped
 stepOf s st row nets =
     elim (stepRefusal s st row nets) [
-      | none ↦ asStep (cycleOf (netsOf s) row st)
+      | none ↦ asStep (cycleOf plain (netsOf s) row st)
       | some r ↦ record { answer = refused r; state = st; nets = nets }
     ]
 
@@ -97,6 +97,6 @@ runRefusal s st k rows outputs =
 unfoldable pub runOf : (s st : List ℕ) (k : ℕ) (rows outputs : List ℕ) → Ran
 runOf s st k rows outputs =
     elim (runRefusal s st k rows outputs) [
-      | none ↦ asRun st (cyclesOf (netsOf s) (sizesOf s .inputs) k rows st)
+      | none ↦ asRun st (cyclesOf plain (netsOf s) (sizesOf s .inputs) k rows st)
       | some r ↦ record { answer = refused r; state = st; outputs = outputs }
     ]

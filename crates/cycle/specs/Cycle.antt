@@ -1,7 +1,7 @@
 -- Clock cycles. One: the bytes of all nets, the verdict, the output bytes, and the registers after the clock. Many: their outputs, the last state, and the first flow.
 use Prim.Native.Nat.{ℕ, zero, suc}
 use mathlib.Core.List.{List, [], _∷_, _++_}
-use mathlib.Core.Bool.{_&&_, cond}
+use mathlib.Core.Bool.{Bool, _&&_, cond}
 use lib.Dec.{eqb}
 use lib.ListN.{getD, take, drop}
 use Rattle.gates.specs.Rules.{mark, gateByte}
@@ -12,6 +12,15 @@ use Rattle.image.specs.Pins.{inverted, pinNet}
 -- a rule for the byte of a gate or OUT (kinds 3 to 8), from its kind and the bytes of its pins
 abbrev pub Rule : Type 0
 Rule = (kind a b c : ℕ) → ℕ
+
+-- what cycles go by: that rule, and which bytes count as marked for the verdict
+pub record Rules : Type 0 where
+  pub gate : Rule
+  pub marked : ℕ → Bool
+
+-- the gate rules of the GLIFT paper, and mark 1
+abbrev pub plain : Rules
+plain = record { gate = gateByte; marked = mark }
 
 -- how far a cycle has come in working out its nets, in net order: their bytes so far, and the row and state bytes that no net has taken yet
 pub record Walk : Type 0 where
@@ -56,11 +65,11 @@ pub data Verdict : Type 0 where
   clear : Verdict
   flow : ℕ → Verdict
 
--- a flow at the lowest-numbered protected OUT with mark 1 among nets, the first of which is net i; clear where there is none
-unfoldable pub verdictFrom : (i : ℕ) → List Net → (bs : List ℕ) → Verdict
-verdictFrom i [] bs = clear
-verdictFrom i (x ∷ xs) bs =
-    cond (eqb (x .kind) OUT && eqb (x .b) 1 && mark (getD bs i 0)) (flow i) (verdictFrom (suc i) xs bs)
+-- a flow at the lowest-numbered protected OUT that is marked among nets, the first of which is net i; clear where there is none
+unfoldable pub verdictFrom : (marked : ℕ → Bool) (i : ℕ) → List Net → (bs : List ℕ) → Verdict
+verdictFrom marked i [] bs = clear
+verdictFrom marked i (x ∷ xs) bs =
+    cond (eqb (x .kind) OUT && eqb (x .b) 1 && marked (getD bs i 0)) (flow i) (verdictFrom marked (suc i) xs bs)
 
 -- the bytes of the OUTs among nets, the first of which is net i, in net order
 unfoldable pub outputsFrom : (i : ℕ) → List Net → (bs : List ℕ) → List ℕ
@@ -85,17 +94,17 @@ pub record Cycle : Type 0 where
   pub state : List ℕ
 
 -- one cycle: all nets are worked out, then the verdict is given, then the clock
-unfoldable pub cycleOf : List Net → (row state : List ℕ) → Cycle
-cycleOf xs row state =
-    let bs = bytesOf gateByte xs row state in
-    record { bytes = bs; verdict = verdictFrom 0 xs bs; outputs = outputsFrom 0 xs bs; state = clocked gateByte xs bs }
+unfoldable pub cycleOf : Rules → List Net → (row state : List ℕ) → Cycle
+cycleOf rules xs row state =
+    let bs = bytesOf (rules .gate) xs row state in
+    record { bytes = bs; verdict = verdictFrom (rules .marked) 0 xs bs; outputs = outputsFrom 0 xs bs; state = clocked (rules .gate) xs bs }
 
 -- k cycles with rows of `inputs` bytes each, from a state
-unfoldable pub cyclesOf : List Net → (inputs k : ℕ) → (rows state : List ℕ) → List Cycle
-cyclesOf xs inputs zero rows state = []
-cyclesOf xs inputs (suc k) rows state =
-    let c = cycleOf xs (take inputs rows) state in
-    c ∷ cyclesOf xs inputs k (drop inputs rows) (c .state)
+unfoldable pub cyclesOf : Rules → List Net → (inputs k : ℕ) → (rows state : List ℕ) → List Cycle
+cyclesOf rules xs inputs zero rows state = []
+cyclesOf rules xs inputs (suc k) rows state =
+    let c = cycleOf rules xs (take inputs rows) state in
+    c ∷ cyclesOf rules xs inputs k (drop inputs rows) (c .state)
 
 -- the output bytes, cycle after cycle
 unfoldable pub outputsOf : List Cycle → List ℕ

@@ -32,7 +32,7 @@ fn flows(image: &[u8], i: usize, nets: &[u8]) -> bool
 pub fn verdict_of(image: &[u8], n: usize, nets: &[u8]) -> Verdict
     requires { ⌜ checkRefusal (now image) ≡ none ⌝ }
     requires { ⌜ (n ≡ sizesOf (now image) .nets) × (length (now nets) ≡ n) ⌝ }
-    ensures { λ r. ⌜ verdictIn r ≡ verdictFrom 0 (netsOf (now (image .entry))) (now (nets .entry)) ⌝ }
+    ensures { λ r. ⌜ verdictIn r ≡ verdictFrom mark 0 (netsOf (now (image .entry))) (now (nets .entry)) ⌝ }
 {
     let mut i: usize = 0;
     loop {

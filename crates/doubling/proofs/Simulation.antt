@@ -18,7 +18,7 @@ use Rattle.image.proofs.Pairs.{pairs-append, pairs-getD, pairs-drop}
 use Rattle.refusals.proofs.Refusals.{Codes}
 use Rattle.net_checking.proofs.Passes.{Passes, is-const, is-input, is-reg, is-not, is-and, is-or, is-xor, is-mux, is-out}
 use Rattle.checking.proofs.Checked.{AllPass, nil, cons}
-use Rattle.cycle.specs.Cycle.{Walk, netByte, past, walk, bytesOf, outputsFrom, registers, clocked, Cycle, cycleOf}
+use Rattle.cycle.specs.Cycle.{plain, Walk, netByte, past, walk, bytesOf, outputsFrom, registers, clocked, Cycle, cycleOf}
 use Rattle.cycle.proofs.Walks.{walk-append}
 use Rattle.cycle.proofs.Cycles.{pin-code}
 use Rattle.cycle.proofs.Selections.{Selection, outputs-selected, registers-selected, selection-append}
@@ -311,11 +311,11 @@ module _ (xs : List Net) {n : ℕ} (bs ds : List ℕ)
 
 -- ONE CYCLE
 abbrev doubledCycle : List Net → (row st : List ℕ) → Cycle
-doubledCycle xs row st = cycleOf (doubledNets xs) (split row) (split st)
+doubledCycle xs row st = cycleOf plain (doubledNets xs) (split row) (split st)
 
 pub record CycleSplits (xs : List Net) (row st : List ℕ) : Type 0 where
-  pub outputs : doubledCycle xs row st .outputs ≡ split (cycleOf xs row st .outputs)
-  pub state : doubledCycle xs row st .state ≡ split (cycleOf xs row st .state)
+  pub outputs : doubledCycle xs row st .outputs ≡ split (cycleOf plain xs row st .outputs)
+  pub state : doubledCycle xs row st .state ≡ split (cycleOf plain xs row st .state)
 
 pub cycle-splits : {xs : List Net} {n : ℕ} (row st : List ℕ) → doubledSize xs ≤ 8192 → AllPass n 0 xs → n ≡ length xs → Codes row → Codes st → CycleSplits xs row st
 unfolding cycleOf bytesOf

@@ -15,7 +15,7 @@ use Rattle.image.specs.Image.{sizesOf, net, netsOf, count}
 use Rattle.image.specs.Pins.{pinNet}
 use Rattle.refusals.specs.declared.answer.Refusal.{Refusal}
 use Rattle.checking.specs.Check.{checkRefusal}
-use Rattle.cycle.specs.Cycle.{pinByte, Verdict, clear, flow, outputsFrom, cycleOf}
+use Rattle.cycle.specs.Cycle.{plain, pinByte, Verdict, clear, flow, outputsFrom, cycleOf}
 use Rattle.cycle.specs.Calls.{stateLength, done, powerUpRefusal, powerUpOf, stepOf, stepRefusal, runOf, runRefusal}
 use Rattle.doubled.specs.Doubled.{doubledSize, valueNet, doubledNets}
 use Rattle.figures.specs.Figures.{doubledSizeOf}
@@ -46,7 +46,7 @@ marks x h = promised .terms .marked x h .0
 itself : (x : ℕ) → AgreeByte x x
 itself = promised .terms .same
 
-cycle-outputs : (xs : List Net) (row st : List ℕ) → outputsFrom 0 xs (cycleOf xs row st .bytes) ≡ cycleOf xs row st .outputs
+cycle-outputs : (xs : List Net) (row st : List ℕ) → outputsFrom 0 xs (cycleOf plain xs row st .bytes) ≡ cycleOf plain xs row st .outputs
 cycle-outputs = promised .terms .outputs
 
 doubled-size : (s : List ℕ) → doubledSize (netsOf s) ≡ valueNet (netsOf s) (sizesOf s .nets)
@@ -140,19 +140,19 @@ module _ (s st : List ℕ) (h : checkRefusal s ≡ none) (l : length st ≡ stat
   powered-up = let p = promised .power-up-starts s st h l in (p .done, p .size)
 
   sizes : (row : List ℕ) → length row ≡ sizesOf s .inputs
-      → let c = cycleOf (netsOf s) row st in (length (c .bytes) ≡ sizesOf s .nets) × (length (c .state) ≡ stateLength (sizesOf s))
+      → let c = cycleOf plain (netsOf s) row st in (length (c .bytes) ≡ sizesOf s .nets) × (length (c .state) ≡ stateLength (sizesOf s))
   sizes row m = let n = promised .net-bytes s row st h m l in (n .nets, n .registers)
 
   net-has : (row : List ℕ) → length row ≡ sizesOf s .inputs → (i : ℕ) → i < sizesOf s .nets
-      → let bs = cycleOf (netsOf s) row st .bytes in HasByte s row st bs i (netOf s i) (getD bs i 0)
+      → let bs = cycleOf plain (netsOf s) row st .bytes in HasByte s row st bs i (netOf s i) (getD bs i 0)
   net-has row m = promised .net-bytes s row st h m l .net-byte
 
   register-takes : (row : List ℕ) → length row ≡ sizesOf s .inputs → (i : ℕ) → i < sizesOf s .nets → netOf s i .kind ≡ REG
-      → let c = cycleOf (netsOf s) row st in Counted REG s i (c .state) (pinByte gateByte (c .bytes) (netOf s i .a))
+      → let c = cycleOf plain (netsOf s) row st in Counted REG s i (c .state) (pinByte gateByte (c .bytes) (netOf s i .a))
   register-takes row m = promised .net-bytes s row st h m l .clock
 
   only-bytes : (row bs : List ℕ) → length bs ≡ sizesOf s .nets
-      → ((i : ℕ) → i < sizesOf s .nets → HasByte s row st bs i (netOf s i) (getD bs i 0)) → bs ≡ cycleOf (netsOf s) row st .bytes
+      → ((i : ℕ) → i < sizesOf s .nets → HasByte s row st bs i (netOf s i) (getD bs i 0)) → bs ≡ cycleOf plain (netsOf s) row st .bytes
   only-bytes row bs = promised .ruled-bytes s row st bs h
 
 -- the byte that a net of each kind may have, by what its pins read
@@ -169,7 +169,7 @@ module _ (s row st bs : List ℕ) (i a b c : ℕ) (ha : pinNet a < i) (hb : pinN
   may-have = (HasByte.not ha, HasByte.and ha hb, HasByte.or ha hb, HasByte.xor ha hb, HasByte.mux ha hb hc, HasByte.out ha)
 
 -- CALLS
-step-nets : (s st row nets : List ℕ) → stepRefusal s st row nets ≡ none → stepOf s st row nets .nets ≡ cycleOf (netsOf s) row st .bytes
+step-nets : (s st row nets : List ℕ) → stepRefusal s st row nets ≡ none → stepOf s st row nets .nets ≡ cycleOf plain (netsOf s) row st .bytes
 step-nets s st row nets h = rw (promised .step-is-cycle s st row nets h)
 
 run-outputs : (s st : List ℕ) (k : ℕ) (rows outputs : List ℕ) → runRefusal s st k rows outputs ≡ none

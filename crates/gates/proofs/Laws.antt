@@ -188,6 +188,18 @@ pub gates-monotone : Gates BelowByte
 unfolding andMark orMark xorMark muxMark
 gates-monotone = gates {r = below} (record { into = below-into; back = below-back; at-not = tt; at-and = tt; at-or = tt; at-xor = tt; at-mux = tt })
 
+pub below-value : {x y : ℕ} → BelowByte x y → value x ≡ value y
+unfolding value
+below-value equal = refl
+below-value zero-marked = refl
+below-value one-marked = refl
+
+pub below-mark : {x y : ℕ} → BelowByte x y → mark x ≡ true → mark y ≡ true
+unfolding mark
+below-mark equal h = h
+below-mark zero-marked h = refl
+below-mark one-marked h = refl
+
 -- VALUES: the value of a gate is found from the values of its pins alone
 pub record SameValue (x y : ℕ) : Type 0 where
   pub values : x % 2 ≡ y % 2

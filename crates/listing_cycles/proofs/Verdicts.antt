@@ -37,11 +37,11 @@ module _ (s : List ℕ) where
   one-net i y false outs bytes e = e
 
   by-outputs : (bs : List ℕ) (i m : ℕ)
-      → let xs = netsFrom s (sizesOf s .nets) i m in verdictBy s (placesFrom OUT i xs) (outputsFrom i xs bs) ≡ verdictFrom i xs bs
+      → let xs = netsFrom s (sizesOf s .nets) i m in verdictBy s (placesFrom OUT i xs) (outputsFrom i xs bs) ≡ verdictFrom mark i xs bs
   unfolding netsFrom placesFrom outputsFrom verdictFrom verdictBy netAt
   by-outputs bs i zero = refl
   by-outputs bs i (suc m) = one-net i (getD bs i 0) (eqb (netAt s (sizesOf s .nets) i .kind) OUT) _ _ (by-outputs bs (suc i) m)
 
-  pub verdict-by-outputs : (bs : List ℕ) → verdictBy s (placesFrom OUT 0 (netsOf s)) (outputsFrom 0 (netsOf s) bs) ≡ verdictFrom 0 (netsOf s) bs
+  pub verdict-by-outputs : (bs : List ℕ) → verdictBy s (placesFrom OUT 0 (netsOf s)) (outputsFrom 0 (netsOf s) bs) ≡ verdictFrom mark 0 (netsOf s) bs
   unfolding netsOf
   verdict-by-outputs bs = by-outputs bs 0 (sizesOf s .nets)

@@ -11,7 +11,7 @@ use lib.ListN.{length, take, drop}
 use lib.Seq.{take-all, take-at, drop-at}
 use Rattle.gates.specs.Kinds.{OUT}
 use Rattle.image.specs.Image.{sizesOf, netsOf}
-use Rattle.cycle.specs.Cycle.{Verdict, clear, flow, Cycle, cycleOf, cyclesOf, outputsOf, stateAfter, firstOf, firstFlow}
+use Rattle.cycle.specs.Cycle.{plain, Verdict, clear, flow, Cycle, cycleOf, cyclesOf, outputsOf, stateAfter, firstOf, firstFlow}
 use Rattle.cycle.specs.Calls.{done, asRun, runOf}
 use Rattle.cycle.proofs.Cycles.{outputs-length}
 use Rattle.cycle.proofs.Selections.{selection-length}
@@ -43,14 +43,14 @@ cycles-go-on (c ∷ cs) p = cycles-go-on cs (withCycle (c .outputs) (c .verdict)
 module _ (s : List ℕ) where
   -- the cycles of k rows of the image s
   abbrev pub cyclesOn : (k : ℕ) (rows st : List ℕ) → List Cycle
-  cyclesOn k rows st = cyclesOf (netsOf s) (sizesOf s .inputs) k rows st
+  cyclesOn k rows st = cyclesOf plain (netsOf s) (sizesOf s .inputs) k rows st
 
   -- LINES by output bytes
-  cycle-outputs : (row st : List ℕ) → length (cycleOf (netsOf s) row st .outputs) ≡ length (placesFrom OUT 0 (netsOf s))
+  cycle-outputs : (row st : List ℕ) → length (cycleOf plain (netsOf s) row st .outputs) ≡ length (placesFrom OUT 0 (netsOf s))
   unfolding cycleOf
   cycle-outputs row st = outputs-length 0 (netsOf s) _ ∙ sym (selection-length (places-selected OUT) 0 (netsOf s))
 
-  cycle-verdict : (row st : List ℕ) → verdictBy s (placesFrom OUT 0 (netsOf s)) (cycleOf (netsOf s) row st .outputs) ≡ cycleOf (netsOf s) row st .verdict
+  cycle-verdict : (row st : List ℕ) → verdictBy s (placesFrom OUT 0 (netsOf s)) (cycleOf plain (netsOf s) row st .outputs) ≡ cycleOf plain (netsOf s) row st .verdict
   unfolding cycleOf
   cycle-verdict row st = verdict-by-outputs s _
 
@@ -60,7 +60,7 @@ module _ (s : List ℕ) where
   lines-are zero rows st p = refl
   lines-are (suc k) rows st p =
       let row = take (sizesOf s .inputs) rows in
-      let c = cycleOf (netsOf s) row st in
+      let c = cycleOf plain (netsOf s) row st in
       let rest = outputsOf (cyclesOn k (drop (sizesOf s .inputs) rows) (c .state)) in
       let outs = placesFrom OUT 0 (netsOf s) in
       rw (take-at (c .outputs) rest (length outs) (cycle-outputs row st), drop-at (c .outputs) rest (length outs) (cycle-outputs row st), cycle-verdict row st)
@@ -74,7 +74,7 @@ module _ (s : List ℕ) where
 
   module _ {st row : List ℕ} (r : Ready s st (sizesOf s .inputs) row) where
     abbrev c : Cycle
-    c = cycleOf (netsOf s) row st
+    c = cycleOf plain (netsOf s) row st
 
     outputs-size : length (c .outputs) ≡ sizesOf s .outputs
     unfolding cycleOf
@@ -111,7 +111,7 @@ module _ (s : List ℕ) where
   rows-cycles (suc k) {st} {rows} {p} some going r =
       let i = sizesOf s .inputs in
       let first = first-ready k r in
-      let c = cycleOf (netsOf s) (take i rows) st in
+      let c = cycleOf plain (netsOf s) (take i rows) st in
       let more = rows-cycles k {p = withCycle (c .outputs) (c .verdict) p} some (goes-on (c .outputs) (c .verdict) p ∙ going) (rest-ready k r) in
       let long : i ≤ length rows = omega (arith, r .size, suc-mul k i) in
       record {

@@ -182,12 +182,12 @@ one-out s i nets true is v e = told (eqb (operandAt s (sizesOf s .nets) i 1) 1)
 one-out s i nets false is v e = e
 
 protected-verdict-from : (s nets : List ℕ) (i m : ℕ)
-    → firstMarked (protectedOf s (placesFrom OUT i (netsFrom s (sizesOf s .nets) i m))) nets ≡ verdictFrom i (netsFrom s (sizesOf s .nets) i m) nets
+    → firstMarked (protectedOf s (placesFrom OUT i (netsFrom s (sizesOf s .nets) i m))) nets ≡ verdictFrom mark i (netsFrom s (sizesOf s .nets) i m) nets
 unfolding netsFrom placesFrom verdictFrom firstMarked protectedOf netAt
 protected-verdict-from s nets i zero = refl
 protected-verdict-from s nets i (suc m) = one-out s i nets (eqb (netAt s (sizesOf s .nets) i .kind) OUT) _ _ (protected-verdict-from s nets (suc i) m)
 
-pub protected-verdict : (s nets : List ℕ) → firstMarked (protectedOf s (placesFrom OUT 0 (netsOf s))) nets ≡ verdictFrom 0 (netsOf s) nets
+pub protected-verdict : (s nets : List ℕ) → firstMarked (protectedOf s (placesFrom OUT 0 (netsOf s))) nets ≡ verdictFrom mark 0 (netsOf s) nets
 protected-verdict s nets = rw (all-nets s refl 0) (protected-verdict-from s nets 0 (sizesOf s .nets))
 
 -- they are listed one by one

@@ -144,7 +144,7 @@ module _ {s : List ℕ} (c : Checked s) where
     nets-alike : (j : ℕ) → j < sizesOf s .nets → getD nets j 0 ≡ getD (take (sizesOf s .nets) nets) j 0
     nets-alike j h = sym (getD-take (sizesOf s .nets) nets j 0 h)
 
-    pub verdict-off : verdictFrom 0 (netsOf s) nets ≡ verdictFrom 0 (netsOf s) (take (sizesOf s .nets) nets)
+    pub verdict-off : verdictFrom mark 0 (netsOf s) nets ≡ verdictFrom mark 0 (netsOf s) (take (sizesOf s .nets) nets)
     verdict-off = verdict-alike nets _ nets-alike 0 (netsOf s) (omega (arith, length-nets s))
 
     pub outputs-off : outputsFrom 0 (netsOf s) nets ≡ outputsFrom 0 (netsOf s) (take (sizesOf s .nets) nets)

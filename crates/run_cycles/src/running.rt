@@ -20,7 +20,7 @@ ghost use Rattle.gates.specs.Rules.{gateByte};
 ghost use Rattle.gates.specs.Table.{GateTable};
 ghost use Rattle.image.specs.Image.{sizesOf, netsOf};
 ghost use Rattle.cycle.specs.Answers.{verdictIn, firstFlowIn, ran};
-ghost use Rattle.cycle.specs.Cycle.{bytesOf, cycleOf, firstOf};
+ghost use Rattle.cycle.specs.Cycle.{plain, bytesOf, cycleOf, firstOf};
 ghost use Rattle.cycle.specs.Calls.{stepRefusal, runRefusal, runOf};
 ghost use Rattle.lists.specs.Lists.{Found, Watched};
 ghost use Rattle.settling.specs.Settling.{Prepared};
@@ -71,9 +71,9 @@ fn cycle(
     requires { ⌜ Prepared (now image) (now nets) (sizesOf (now image) .nets) × (length (now outputs) ≡ sizesOf (now image) .outputs) ⌝ }
     ensures { λ r. ⌜ firstFlowIn r
         ≡ firstOf (earlier .cycle) (verdictIn (earlier .verdict))
-        (firstOf c (cycleOf (netsOf (now (image .entry))) (now (row .entry)) (now (state .entry)) .verdict) (firstFlowIn earlier)) ⌝ }
-    ensures { λ r. ⌜ now (outputs .exit) ≡ cycleOf (netsOf (now (image .entry))) (now (row .entry)) (now (state .entry)) .outputs ⌝ }
-    ensures { λ r. ⌜ now (state .exit) ≡ cycleOf (netsOf (now (image .entry))) (now (row .entry)) (now (state .entry)) .state ⌝ }
+        (firstOf c (cycleOf plain (netsOf (now (image .entry))) (now (row .entry)) (now (state .entry)) .verdict) (firstFlowIn earlier)) ⌝ }
+    ensures { λ r. ⌜ now (outputs .exit) ≡ cycleOf plain (netsOf (now (image .entry))) (now (row .entry)) (now (state .entry)) .outputs ⌝ }
+    ensures { λ r. ⌜ now (state .exit) ≡ cycleOf plain (netsOf (now (image .entry))) (now (row .entry)) (now (state .entry)) .state ⌝ }
     ensures { λ r. ⌜ Prepared (now (image .entry)) (now (nets .exit)) (sizesOf (now (image .entry)) .nets) ⌝ }
 {
     work_out_listed(image, p, t, list, row, state, nets);

@@ -2,7 +2,7 @@
 //!
 //! Each of these also sees to it that the refused call changed no lent byte.
 
-use reference::{check, double, power_up, run, step, Refusal};
+use reference::{check, double, power_up, run, static_power_up, static_run, step, Refusal};
 
 /// The answer of a call that turns back.
 pub fn refused<T>(number: u32, place: usize) -> Result<T, Refusal> {
@@ -49,6 +49,30 @@ pub fn run_refuses(
     let mut lent_state = state.to_vec();
     let mut lent_outputs = vec![77; outputs];
     let answer = run(image, k, &mut lent_state, rows, &mut lent_outputs);
+    assert_eq!(answer, refused(number, place));
+    assert_eq!(lent_state, state);
+    assert_eq!(lent_outputs, vec![77; outputs]);
+}
+
+/// Static power-up refuses and leaves the state.
+pub fn static_power_up_refuses(image: &[u8], state: &[u8], number: u32, place: usize) {
+    let mut lent = state.to_vec();
+    assert_eq!(static_power_up(image, &mut lent), refused(number, place));
+    assert_eq!(lent, state);
+}
+
+/// A static run refuses and leaves the state and the output buffer, whose length
+/// is given here and whose bytes are 77.
+pub fn static_run_refuses(
+    image: &[u8],
+    k: usize,
+    (state, rows, outputs): (&[u8], &[u8], usize),
+    number: u32,
+    place: usize,
+) {
+    let mut lent_state = state.to_vec();
+    let mut lent_outputs = vec![77; outputs];
+    let answer = static_run(image, k, &mut lent_state, rows, &mut lent_outputs);
     assert_eq!(answer, refused(number, place));
     assert_eq!(lent_state, state);
     assert_eq!(lent_outputs, vec![77; outputs]);

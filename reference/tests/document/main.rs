@@ -1,5 +1,5 @@
-//! Tests of the reference against document 01 and requests L1, L2 and L3 of
-//! document 02.
+//! Tests of the reference against document 01 and requests L1 to L4 of document
+//! 02.
 //!
 //! Every expected value is a line of these documents or is worked out by hand
 //! from them, and then a comment says how.
@@ -8,6 +8,7 @@
 
 mod cases;
 mod checking;
+mod codes;
 mod counter;
 mod cycles;
 mod doubled_bytes;
@@ -31,6 +32,12 @@ mod properties;
 mod random;
 mod samples;
 mod sizes;
+mod static_cycles;
+mod static_exact;
+mod static_gates;
+mod static_properties;
+mod static_refusals;
+mod static_wrong_readings;
 mod table;
 mod two_runs;
 mod unchanged;

@@ -1,5 +1,6 @@
 //! Random numbers and netlists for the tests, the same in every run of them.
 
+use crate::codes::CODES;
 use crate::images::*;
 use crate::pins::{change_pins, inverted, pins};
 
@@ -23,6 +24,11 @@ impl Numbers {
     /// Bytes from 0 to 3.
     pub fn bytes(&mut self, length: usize) -> Vec<u8> {
         (0..length).map(|_| self.below(4) as u8).collect()
+    }
+
+    /// Codes of a static run.
+    pub fn codes(&mut self, length: usize) -> Vec<u8> {
+        (0..length).map(|_| CODES[self.below(6)]).collect()
     }
 }
 

@@ -3,7 +3,9 @@
 use crate::images::*;
 use crate::pins::all_inversions;
 use crate::random::{random_nets, Numbers};
-use reference::{double, doubled_size, power_up, run, step, FirstFlow, Verdict};
+use reference::{
+    double, doubled_size, power_up, run, static_power_up, static_run, step, FirstFlow, Verdict,
+};
 
 /// A good netlist image with its N, I, R and O.
 #[derive(Clone)]
@@ -62,6 +64,20 @@ impl Sample {
         let mut state = state.to_vec();
         let mut outputs = vec![fill; k * self.outputs];
         let answer = run(&self.image, k, &mut state, rows, &mut outputs).unwrap();
+        (answer, outputs, state)
+    }
+
+    /// The state at static power-up.
+    pub fn static_power_up(&self) -> Vec<u8> {
+        let mut state = vec![77; self.registers];
+        static_power_up(&self.image, &mut state).unwrap();
+        state
+    }
+
+    pub fn static_run(&self, state: &[u8], k: usize, rows: &[u8]) -> Ran {
+        let mut state = state.to_vec();
+        let mut outputs = vec![77; k * self.outputs];
+        let answer = static_run(&self.image, k, &mut state, rows, &mut outputs).unwrap();
         (answer, outputs, state)
     }
 

@@ -11,6 +11,9 @@ pub enum Call {
     Run,
     Double,
     Figures,
+    Table,
+    Awake,
+    Unknown,
 }
 
 pub fn read_call(word: &str) -> Call {
@@ -22,6 +25,9 @@ pub fn read_call(word: &str) -> Call {
         "Run" => Call::Run,
         "Double" => Call::Double,
         "Figures" => Call::Figures,
+        "Table" => Call::Table,
+        "Awake" => Call::Awake,
+        "Unknown" => Call::Unknown,
         _ => panic!("no call: {word}"),
     }
 }
@@ -31,18 +37,20 @@ impl Call {
     /// printed are numbers. The other calls take none.
     pub fn takes_number(self) -> bool {
         match self {
-            Call::Gate | Call::Run | Call::Double => true,
-            Call::Check | Call::PowerUp | Call::Step | Call::Figures => false,
+            Call::Gate | Call::Run | Call::Double | Call::Table | Call::Unknown => true,
+            Call::Check | Call::PowerUp | Call::Step | Call::Figures | Call::Awake => false,
         }
     }
 
     /// The lists that a call takes.
     pub fn takes_lists(self) -> &'static [&'static str] {
         match self {
-            Call::Gate => &["rows"],
+            Call::Gate | Call::Table => &["rows"],
             Call::Check | Call::Figures => &["image", "doubled"],
-            Call::PowerUp => &["image", "doubled", "state"],
-            Call::Step | Call::Run => &["image", "doubled", "state", "rows", "buffer"],
+            Call::PowerUp | Call::Awake => &["image", "doubled", "state"],
+            Call::Step | Call::Run | Call::Unknown => {
+                &["image", "doubled", "state", "rows", "buffer"]
+            }
             Call::Double => &["image", "doubled", "buffer"],
         }
     }
@@ -65,6 +73,10 @@ fn a_call_may_have_all_that_it_takes() {
         "Double 3 image 1 doubled 9 buffer 9",
         "Figures image 1 doubled 9",
         "Figures image",
+        "Table 7 rows 3*4",
+        "Awake image 1 doubled 9 state 0",
+        "Unknown 1 image 1 doubled 9 state 0 rows 0 buffer 9",
+        "Unknown image state rows buffer",
     ] {
         assert!(is_read(call), "{call}");
     }
@@ -94,6 +106,16 @@ fn a_call_has_nothing_that_it_does_not_take() {
         "figures image 1",
         "Figure image 1",
         "F image 1",
+        "Table 7 image 1",
+        "Table 7 rows 3*4 state 0",
+        "Awake 1 image 1",
+        "Awake image 1 rows 0",
+        "Awake image 1 buffer 9",
+        "Unknown 1 image 1 kinds 1",
+        "Unknown 1 2 image 1",
+        "T 7 rows 3*4",
+        "A image 1",
+        "U 1 image 1",
     ] {
         assert!(!is_read(call), "{call}");
     }

@@ -5,8 +5,8 @@ use super::printing::{figures, image, lent, outcome, run_answer, step_answer, wh
 use super::reading::Case;
 use crate::images::{AND, MUX, NOT, OR, OUT, XOR};
 use reference::{
-    and_byte, check, double, doubled_size, mux_byte, not_byte, or_byte, power_up, run, step,
-    xor_byte,
+    and_byte, and_code, check, double, doubled_size, mux_byte, mux_code, not_byte, not_code,
+    or_byte, or_code, power_up, run, static_power_up, static_run, step, xor_byte, xor_code,
 };
 use std::fmt::Write;
 
@@ -33,13 +33,33 @@ fn gate_byte(kind: u8, a: u8, b: u8, c: u8) -> u8 {
     }
 }
 
-fn execute_gate(case: &Case, page: &mut String) {
+/// The static code of a gate or OUT for the pins a, b and c.
+fn gate_code(kind: u8, a: u8, b: u8, c: u8) -> u8 {
+    match kind {
+        NOT => not_code(a),
+        AND => and_code(a, b),
+        OR => or_code(a, b),
+        XOR => xor_code(a, b),
+        MUX => mux_code(a, b, c),
+        OUT => a,
+        _ => panic!("no gate: {kind}"),
+    }
+}
+
+/// Prints what a gate of the case's kind gives for each three pins. Each pin has
+/// one of the given bytes.
+fn execute_gate(
+    case: &Case,
+    bytes: &[u8],
+    gate: fn(u8, u8, u8, u8) -> u8,
+    page: &mut String,
+) {
     let kind = u8::try_from(case.number).unwrap();
     assert_eq!(case.rows.len() % 3, 0, "{}", case.name);
     page.push_str(": ");
     for pins in case.rows.chunks(3) {
-        assert!(pins.iter().all(|pin| *pin <= 3), "{}", case.name);
-        write!(page, "{}", gate_byte(kind, pins[0], pins[1], pins[2])).unwrap();
+        assert!(pins.iter().all(|pin| bytes.contains(pin)), "{}", case.name);
+        write!(page, "{}", gate(kind, pins[0], pins[1], pins[2])).unwrap();
     }
 }
 

@@ -18,7 +18,7 @@ use Rattle.cycle_parts.proofs.verdict.verdict_of.Statement.{statement}
 use Rattle.cycle_parts.proofs.verdict.verdict_of.Tie as tie
 
 abbrev Inv-loop : tie.InvT-loop
-Inv-loop image n nets i₀ i = (i ≤ n) × (verdictFrom 0 (netsOf image) nets ≡ verdictFrom i (netsLeft image n i) nets)
+Inv-loop image n nets i₀ i = (i ≤ n) × (verdictFrom mark 0 (netsOf image) nets ≡ verdictFrom mark i (netsLeft image n i) nets)
 
 abbrev μ-loop : tie.MeasureT-loop
 μ-loop image n nets i₀ i = n - i
@@ -29,7 +29,7 @@ loop-holds c =
     let pre = start .pre in
     let s = start .args .image .now in
     let bs = start .args .nets .now in
-    (omega arith, ap (λ xs. verdictFrom 0 xs bs) (sym (nets-left s _ (pre .1 .0))))
+    (omega arith, ap (λ xs. verdictFrom mark 0 xs bs) (sym (nets-left s _ (pre .1 .0))))
 
 flows-requires : tie.Need-flows-requires Inv-loop μ-loop
 flows-requires c κs =
@@ -39,8 +39,8 @@ flows-requires c κs =
 
 -- the net at hand decides, or leaves the verdict to the nets above
 this-net : (s : List ℕ) (n i : ℕ) (bs : List ℕ) → i < n
-    → verdictFrom i (netsLeft s n i) bs
-    ≡ cond (eqb (kindAt s i) OUT && eqb (operandAt s n i 1) 1 && mark (getD bs i 0)) (flow i) (verdictFrom (i + 1) (netsLeft s n (i + 1)) bs)
+    → verdictFrom mark i (netsLeft s n i) bs
+    ≡ cond (eqb (kindAt s i) OUT && eqb (operandAt s n i 1) 1 && mark (getD bs i 0)) (flow i) (verdictFrom mark (i + 1) (netsLeft s n (i + 1)) bs)
 unfolding verdictFrom netAt
 this-net s n i bs h = rw (nets-next s n i h, add-one i)
 
@@ -49,8 +49,8 @@ left : (c : tie.After-flows Inv-loop μ-loop)
     → let at = c .before .before in
     let args = at .before .before .before .args in
     let i = at .loop .i in
-    verdictFrom 0 (netsOf (args .image .now)) (args .nets .now)
-    ≡ cond (c .flows .result) (flow i) (verdictFrom (i + 1) (netsLeft (args .image .now) (args .n) (i + 1)) (args .nets .now))
+    verdictFrom mark 0 (netsOf (args .image .now)) (args .nets .now)
+    ≡ cond (c .flows .result) (flow i) (verdictFrom mark (i + 1) (netsLeft (args .image .now) (args .n) (i + 1)) (args .nets .now))
 left c =
     let at = c .before .before in
     let start = at .before .before .before in
@@ -60,7 +60,7 @@ left c =
 loop-again : tie.Need-loop-again Inv-loop μ-loop
 loop-again c = (omega arith, rw (c .if2 .left) at (left (c .before)))
 
-nothing-left : (i : ℕ) (bs : List ℕ) → verdictFrom i [] bs ≡ clear
+nothing-left : (i : ℕ) (bs : List ℕ) → verdictFrom mark i [] bs ≡ clear
 unfolding verdictFrom
 nothing-left i bs = refl
 

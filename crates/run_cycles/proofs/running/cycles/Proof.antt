@@ -13,7 +13,7 @@ use Rattle.image.specs.declared.image.Sizes.{Sizes}
 use Rattle.image.specs.Image.{sizesOf, netsOf}
 use Rattle.checking.proofs.Checked.{check-none, few-of}
 use Rattle.cycle.specs.Answers.{firstFlowIn}
-use Rattle.cycle.specs.Cycle.{cycleOf, FirstFlow}
+use Rattle.cycle.specs.Cycle.{plain, cycleOf, FirstFlow}
 use Rattle.cycle.proofs.Calls.{Ready, step-none, run-none, run-accepted}
 use Rattle.cycle.proofs.Runs.{product-fits, after, Running, run-begins, all-outputs, row-fits, row-ready, outputs-fit, run-goes-on, run-ends}
 use Rattle.settling.specs.Settling.{Prepared}
@@ -151,9 +151,9 @@ cycle-requires c κs =
 run-next : {s : List ℕ} {k : ℕ} {rows begin : List ℕ} {c m : ℕ} {st outputs : List ℕ} {first : FirstFlow} {row out : ℕ}
     → Running s k rows begin c (suc m) st outputs first row out
     → {st′ ys : List ℕ} {first′ : FirstFlow} {i o : ℕ}
-    → st′ ≡ cycleOf (netsOf s) (take (sizesOf s .inputs) (drop row rows)) st .state
-    → ys ≡ cycleOf (netsOf s) (take (sizesOf s .inputs) (drop row rows)) st .outputs
-    → first′ ≡ after first c (cycleOf (netsOf s) (take (sizesOf s .inputs) (drop row rows)) st .verdict)
+    → st′ ≡ cycleOf plain (netsOf s) (take (sizesOf s .inputs) (drop row rows)) st .state
+    → ys ≡ cycleOf plain (netsOf s) (take (sizesOf s .inputs) (drop row rows)) st .outputs
+    → first′ ≡ after first c (cycleOf plain (netsOf s) (take (sizesOf s .inputs) (drop row rows)) st .verdict)
     → i ≡ sizesOf s .inputs
     → o ≡ sizesOf s .outputs
     → Running s k rows begin (suc c) m st′ (take out outputs ++ (ys ++ drop (out + o) outputs)) first′ (row + i) (out + o)

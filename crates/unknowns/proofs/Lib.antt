@@ -1,0 +1,7 @@
+-- Laws of codes, of the rule by filling, and of its tables.
+pub mod CodesAll
+pub mod Covered
+pub mod Exact
+pub mod Known
+pub mod Places
+pub mod Wider

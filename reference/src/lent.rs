@@ -1,0 +1,57 @@
+//! What a call looks at before its first cycle: refusals 9 to 14 for K, states,
+//! rows and output buffers, and 18 of request L4 of document 02.
+
+use crate::answers::Refusal;
+use crate::netlist::Netlist;
+
+/// A run takes 0 to 4,096 cycles.
+pub const MOST_CYCLES: usize = 4096;
+
+/// Refusal 9: K is above 4,096. It is tried before any product with K. From here
+/// on a product with K is at most 4,096 * 8,192 and does not overflow.
+pub(crate) fn check_cycles(k: usize) -> Result<(), Refusal> {
+    if k > MOST_CYCLES {
+        return Err(Refusal::plain(9));
+    }
+    Ok(())
+}
+
+/// Refusal 10: the state length is not R.
+pub(crate) fn check_state_length(netlist: &Netlist, state: &[u8]) -> Result<(), Refusal> {
+    if state.len() != netlist.registers {
+        return Err(Refusal::plain(10));
+    }
+    Ok(())
+}
+
+/// Refusal 12: the row length is not I, or in a run K * I.
+pub(crate) fn check_row_length(rows: &[u8], length: usize) -> Result<(), Refusal> {
+    if rows.len() != length {
+        return Err(Refusal::plain(12));
+    }
+    Ok(())
+}
+
+/// Refusal 14: the net buffer is not N bytes, or in a run the output buffer is
+/// not K * O bytes.
+pub(crate) fn check_buffer_length(buffer: &[u8], length: usize) -> Result<(), Refusal> {
+    if buffer.len() != length {
+        return Err(Refusal::plain(14));
+    }
+    Ok(())
+}
+
+/// Refusals 11, 13 and 18: a state or the rows have a bad byte. The place is the
+/// index of the first one. In a run it is counted through all K * I row bytes.
+pub(crate) fn check_bytes(
+    bytes: &[u8],
+    is_bad: fn(u8) -> bool,
+    number: u32,
+) -> Result<(), Refusal> {
+    for (index, byte) in bytes.iter().enumerate() {
+        if is_bad(*byte) {
+            return Err(Refusal::at(number, index));
+        }
+    }
+    Ok(())
+}
