@@ -11,13 +11,13 @@ use lib.Dec.{eqb}
 use lib.ListN.{length, getD, take, drop, set, length-set, length-map, drop-of-length-le}
 use lib.Seq.{drop-cons, take-suc, take-suc-set, take-set-le}
 use borrow.Author.Tests.{eqb-true, eqb-false}
-use Rattle.gates.specs.Kinds.{REG, OUT}
-use Rattle.gates.specs.Rules.{mark, gateByte}
+use Rattle.gates.specs.Kinds.{REG, NOT, OUT}
+use Rattle.gates.specs.Rules.{mark}
 use Rattle.image.specs.declared.image.Net.{Net}
 use Rattle.image.specs.Image.{sizesOf, net, kindAt, operandAt, netAt, netsFrom, netsOf, count}
 use Rattle.image.proofs.Nets.{net-in, length-nets}
-use Rattle.cycle.specs.Codes.{Low}
-use Rattle.cycle.specs.Cycle.{pinByte, Verdict, clear, flow, outputsFrom, verdictFrom, clocked}
+use Rattle.unknowns.specs.Widths.{ruleBy, Coded}
+use Rattle.cycle.specs.Cycle.{Rule, pinByte, Verdict, clear, flow, outputsFrom, verdictFrom, clocked}
 use Rattle.cycle.proofs.Selections.{Selection, outputs-selected, registers-selected, selection-length, place-below, selection-place}
 use Rattle.cycle.proofs.Filling.{Pass, pass-takes, pass-skips, Filled, fill-begins, fill-goes-on, fill-length, fill-ends}
 use Rattle.cycle.proofs.Deciding.{below-or-here}
@@ -114,27 +114,28 @@ module _ (s : List ℕ) {n : ℕ} (e : n ≡ sizesOf s .nets) (k : ℕ) where
     listed-kind j h = rw o (kind-listed j (rw o at h))
 
 -- BYTES PUT to the listed nets
-pub put-begins : {list bytes nets : List ℕ} → Put list bytes nets nets 0
+pub put-begins : {w : ℕ} {list bytes nets : List ℕ} → Put w list bytes nets nets 0
 put-begins = record { size = refl; taken = λ k h. absurd (omega arith); others = λ i m h. refl; both = λ n m b. b }
 
-pub put-goes-on : {list bytes before after : List ℕ} {j : ℕ} → Places 8192 list → length before ≡ 40960 → Low bytes → j < length list → Put list bytes before after j
-    → Put list bytes before (putBoth after (getD list j 0) (getD bytes j 0)) (suc j)
-put-goes-on {list} {bytes} {before} {after} {j} places e low h p =
+pub put-goes-on : {w : ℕ} {list bytes before after : List ℕ} {j : ℕ} → Places 8192 list → length before ≡ 40960 → Coded w bytes → j < length list → Put w list bytes before after j
+    → Put w list bytes before (putBoth w after (getD list j 0) (getD bytes j 0)) (suc j)
+put-goes-on {w} {list} {bytes} {before} {after} {j} places e coded h p =
     let i = getD list j 0 in
     let b = getD bytes j 0 in
+    let y = ruleBy w NOT b 0 0 in
     let small : i < 32768 = omega (arith, places .within .below j h) in
     let there : 32768 + i < length after = omega (arith, places .within .below j h, p .size) in
     record {
-      size = put-size after i b ∙ p .size;
+      size = put-size after i b y ∙ p .size;
       taken = λ k l.
           ⊎-elim
-          (λ o. rw o (put-here after i b small there))
+          (λ o. rw o (put-here after i b y small there))
           (λ m.
           let other = places .within .below k (omega arith) in
-          put-other after i b (omega arith) (λ o. let x = places .different k j (omega arith) h o in omega arith) ∙ p .taken k m)
+          put-other after i b y (omega arith) (λ o. let x = places .different k j (omega arith) h o in omega arith) ∙ p .taken k m)
           (below-or-here j k l);
-      others = λ x m no. put-other after i b m (λ o. no j (omega arith) (sym o)) ∙ p .others x m (λ k l. no k (omega arith));
-      both = λ n m q. put-keeps after i b small there m (low .low j) (p .both n m q);
+      others = λ x m no. put-other after i b y m (λ o. no j (omega arith) (sym o)) ∙ p .others x m (λ k l. no k (omega arith));
+      both = λ n m q. put-keeps w after i b small there (coded .codes j) m (p .both n m q);
     }
 
 -- BYTES TAKEN from the listed nets, each by a function of its net, in order
@@ -227,9 +228,9 @@ protected-within s {list = list} w = record { below = all-within s list (w .belo
 
 -- ALL NETS of an image: what the lists of its REGs and of its OUTs give
 module _ (s : List ℕ) {n : ℕ} (e : n ≡ sizesOf s .nets) (nets : List ℕ) where
-  pub clocked-listed : map (λ i. pinByte gateByte nets (operandAt s n i 0)) (placesFrom REG 0 (netsOf s)) ≡ clocked gateByte (netsOf s) nets
+  pub clocked-listed : (rule : Rule) → map (λ i. pinByte rule nets (operandAt s n i 0)) (placesFrom REG 0 (netsOf s)) ≡ clocked rule (netsOf s) nets
   unfolding clocked netAt
-  clocked-listed = rw (all-nets s e 0) (gathered-selection (λ i. pinByte gateByte nets (operandAt s n i 0)) (registers-selected (λ x. pinByte gateByte nets (x .a))) s n (λ i. refl) 0 n)
+  clocked-listed rule = rw (all-nets s e 0) (gathered-selection (λ i. pinByte rule nets (operandAt s n i 0)) (registers-selected (λ x. pinByte rule nets (x .a))) s n (λ i. refl) 0 n)
 
   pub outputs-listed : map (λ i. getD nets i 0) (placesFrom OUT 0 (netsOf s)) ≡ outputsFrom 0 (netsOf s) nets
   outputs-listed = rw (all-nets s e 0) (gathered-selection (λ i. getD nets i 0) (outputs-selected nets) s n (λ i. refl) 0 n)

@@ -32,12 +32,16 @@ pub record Places (n : ℕ) (list : List ℕ) : Type 0 where
   pub within : Within n list
   pub different : (j k : ℕ) → j < length list → k < length list → getD list j 0 ≡ getD list k 0 → j ≡ k
 
--- the first j of the listed nets have taken their bytes, no other net has changed, and as many nets stand with their inverses as before
-pub record Put (list bytes before after : List ℕ) (j : ℕ) : Type 0 where
+-- the first j of the listed nets have taken their codes, no other net has changed, and as many nets stand with their inverses as before
+pub record Put (width : ℕ) (list bytes before after : List ℕ) (j : ℕ) : Type 0 where
   pub size : length after ≡ length before
   pub taken : (k : ℕ) → k < j → getD after (getD list k 0) 0 ≡ getD bytes k 0
   pub others : (i : ℕ) → i < 32768 → ((k : ℕ) → k < j → getD list k 0 ≡ i → ⊥) → getD after i 0 ≡ getD before i 0
-  pub both : (n : ℕ) → n ≤ 32768 → Both before n → Both after n
+  pub both : (n : ℕ) → n ≤ 32768 → Both width before n → Both width after n
+
+-- what stands at the places that are the pins of the listed registers of an image s
+abbrev pub atPins : (s list nets : List ℕ) → List ℕ
+atPins s list nets = map (λ i. getD nets (operandAt s (sizesOf s .nets) i 0) 0) list
 
 -- the bytes of the listed nets
 abbrev pub gathered : (list nets : List ℕ) → List ℕ

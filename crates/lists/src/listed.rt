@@ -4,27 +4,28 @@ use cycle::Verdict;
 use gates::marked;
 use image::operand_of;
 use inverses::put_both;
+use unknowns::inverse;
 ghost use mathlib.Core.Path.{_≡_};
 ghost use mathlib.Core.Option.{none};
 ghost use lib.ListN.{length};
 ghost use Rattle.gates.specs.Kinds.{REG};
-ghost use Rattle.gates.specs.Rules.{gateByte};
-ghost use Rattle.image.specs.Image.{sizesOf, netsOf};
+ghost use Rattle.image.specs.Image.{netsOf};
 ghost use Rattle.checking.specs.Check.{checkRefusal};
 ghost use Rattle.cycle.specs.Answers.{verdictIn, firstFlowIn};
-ghost use Rattle.cycle.specs.Codes.{Low};
-ghost use Rattle.cycle.specs.Cycle.{clocked, firstOf};
-ghost use Rattle.inverses.specs.Inverses.{Both};
-ghost use Rattle.lists.specs.Lists.{placesFrom, Within, Places, Put, gathered, firstMarked};
+ghost use Rattle.cycle.specs.Cycle.{firstOf};
+ghost use Rattle.unknowns.specs.Widths.{Coded, Tabled};
+ghost use Rattle.lists.specs.Lists.{placesFrom, Within, Places, Put, atPins, gathered, firstMarked};
 
-// Each listed net takes a byte, in order.
-pub fn put_bytes(list: &[u16], bytes: &[u8], nets: &mut [u8])
-    requires { ⌜ (length (now bytes) ≡ length (now list)) × Low (now bytes) × Places 8192 (now list) × (length (now nets) ≡ 40960) ⌝ }
-    ensures { λ r. ⌜ Put (now (list .entry)) (now (bytes .entry)) (now (nets .entry)) (now (nets .exit)) (length (now (list .entry))) ⌝ }
+// Each listed net takes a code, in order, with the inverse that the table has for it.
+pub fn put_bytes(t: &[u8], width: usize, list: &[u16], bytes: &[u8], nets: &mut [u8])
+    requires { ⌜ Tabled width (now t) × Coded width (now bytes) ⌝ }
+    requires { ⌜ (length (now bytes) ≡ length (now list)) × Places 8192 (now list) × (length (now nets) ≡ 40960) ⌝ }
+    ensures { λ r. ⌜ Put width (now (list .entry)) (now (bytes .entry)) (now (nets .entry)) (now (nets .exit)) (length (now (list .entry))) ⌝ }
 {
     let mut j: usize = 0;
     while j < list.len() {
-        put_both(nets, list[j] as usize, bytes[j]);
+        let x = bytes[j];
+        put_both(nets, list[j] as usize, x, inverse(t, width, x));
         j += 1;
     }
 }
@@ -43,9 +44,9 @@ pub fn take_bytes(list: &[u16], nets: &[u8], bytes: &mut [u8])
 
 // The clock: every listed register takes what its pin reads, all together. That stands at the place which is the pin's number.
 pub fn clock_listed(image: &[u8], list: &[u16], nets: &[u8], state: &mut [u8])
-    requires { ⌜ (checkRefusal (now image) ≡ none) × (length (now nets) ≡ 40960) × Both (now nets) (sizesOf (now image) .nets) ⌝ }
+    requires { ⌜ (checkRefusal (now image) ≡ none) × (length (now nets) ≡ 40960) ⌝ }
     requires { ⌜ (now list ≡ placesFrom REG 0 (netsOf (now image))) × (length (now state) ≡ length (now list)) ⌝ }
-    ensures { λ r. ⌜ now (state .exit) ≡ clocked gateByte (netsOf (now (image .entry))) (now (nets .entry)) ⌝ }
+    ensures { λ r. ⌜ now (state .exit) ≡ atPins (now (image .entry)) (now (list .entry)) (now (nets .entry)) ⌝ }
 {
     let mut j: usize = 0;
     while j < list.len() {

@@ -3,7 +3,6 @@
 use cycle::FirstFlow;
 use cycle::RunAnswer;
 use cycle::Verdict;
-use gates::table;
 use image::sizes_of;
 use lists::Parts;
 use lists::clock_listed;
@@ -29,7 +28,8 @@ ghost use Rattle.settling.specs.Settling.{Prepared};
 fn work_out_listed(
     image: &[u8],
     p: Parts,
-    t: &[u8; 576],
+    t: &[u8],
+    width: usize,
     list: &[u16],
     row: &[u8],
     state: &[u8],
@@ -45,9 +45,9 @@ fn work_out_listed(
     let outs_at = p.outs;
     let ins = &list[..regs_at];
     let regs = &list[regs_at..outs_at];
-    put_bytes(ins, row, nets);
-    put_bytes(regs, state, nets);
-    settle_nets(image, t, p.from, nets);
+    put_bytes(t, width, ins, row, nets);
+    put_bytes(t, width, regs, state, nets);
+    settle_nets(image, t, width, p.from, nets);
 }
 
 // Cycle c of a run: all nets are worked out, then the verdict is given, unless an earlier cycle had a flow; the outputs are written, and
@@ -55,7 +55,8 @@ fn work_out_listed(
 fn cycle(
     image: &[u8],
     p: Parts,
-    t: &[u8; 576],
+    t: &[u8],
+    width: usize,
     list: &[u16],
     protected: &[u16],
     earlier: FirstFlow,
@@ -76,7 +77,7 @@ fn cycle(
     ensures { λ r. ⌜ now (state .exit) ≡ cycleOf plain (netsOf (now (image .entry))) (now (row .entry)) (now (state .entry)) .state ⌝ }
     ensures { λ r. ⌜ Prepared (now (image .entry)) (now (nets .exit)) (sizesOf (now (image .entry)) .nets) ⌝ }
 {
-    work_out_listed(image, p, t, list, row, state, nets);
+    work_out_listed(image, p, t, width, list, row, state, nets);
     let regs_at = p.regs;
     let outs_at = p.outs;
     let end = p.end;
@@ -92,6 +93,8 @@ fn cycle(
 // The k cycles of an accepted run, each on its own part of the rows and of the outputs.
 pub fn cycles(
     image: &[u8],
+    t: &[u8],
+    width: usize,
     k: usize,
     state: &mut [u8],
     rows: &[u8],
@@ -103,7 +106,6 @@ pub fn cycles(
 {
     let z = sizes_of(image);
     let n = z.nets;
-    let t = table();
     let mut list = [0u16; 8192];
     let mut protected = [0u16; 8192];
     let mut nets = [0u8; 40960];
@@ -122,7 +124,8 @@ pub fn cycles(
         let next = cycle(
             image,
             p,
-            &t,
+            t,
+            width,
             &list,
             &protected,
             first,

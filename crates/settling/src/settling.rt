@@ -2,11 +2,12 @@
 // place of what it reads, and there is no branch on its top bit.
 use gates::CONST;
 use gates::NOT;
-use gates::gate_byte;
 use image::kind_of;
 use image::operand_of;
 use image::sizes_of;
 use inverses::put_both;
+use unknowns::code_by;
+use unknowns::inverse;
 ghost use mathlib.Core.Path.{_≡_};
 ghost use mathlib.Core.Option.{none};
 ghost use mathlib.Core.Bool.{cond};
@@ -14,81 +15,94 @@ ghost use Prim.Native.Nat.{ℕ, _+_, _<_, _≤_, _%_};
 ghost use lib.Dec.{eqb};
 ghost use lib.ListN.{length};
 ghost use Rattle.gates.specs.Kinds.{CONST, NOT};
-ghost use Rattle.gates.specs.Table.{GateTable};
 ghost use Rattle.image.specs.Image.{sizesOf, kindAt};
 ghost use Rattle.checking.specs.Check.{checkRefusal};
 ghost use Rattle.inverses.specs.Inverses.{Both};
+ghost use Rattle.unknowns.specs.Widths.{Tabled};
 ghost use Rattle.settling.specs.Settling.{settledAt, Settled, Prepared};
 
 // The byte of a net before the first cycle, by its kind and operand a: a CONST's own, and 0 for the others. No branch on the kind.
 fn first_byte(kind: u8, a: usize) -> u8
-    ensures { λ r. ⌜ r ≡ cond (eqb kind CONST) (a % 2) 0 ⌝ }
+    ensures { λ r. ⌜ (r ≡ cond (eqb kind CONST) (a % 2) 0) × (r < 2) ⌝ }
 {
     let constant = (kind == CONST) as u8;
     constant * (a % 2) as u8
 }
 
-// The bytes before the first cycle: a CONST's own, and 0 elsewhere.
+// The bytes before the first cycle: a CONST's own, and 0 elsewhere. They are known and trusted, so that a NOT of them is the other one by every rule.
 pub fn set_constants(image: &[u8], n: usize, nets: &mut [u8])
     requires { ⌜ (checkRefusal (now image) ≡ none) × (n ≡ sizesOf (now image) .nets) × (length (now nets) ≡ 40960) ⌝ }
-    ensures { λ r. ⌜ Prepared (now (image .entry)) (now (nets .exit)) n ⌝ }
+    ensures { λ r. ⌜ ((width : ℕ) → Prepared width (now (image .entry)) (now (nets .exit)) n) ⌝ }
 {
     let mut i: usize = 0;
     while i < n {
         let x = first_byte(kind_of(image, i), operand_of(image, i, 0));
-        put_both(nets, i, x);
+        put_both(nets, i, x, 1 - x);
         i += 1;
     }
 }
 
 // Net i takes its byte where it is a gate or OUT, and keeps the one that it has where not.
-fn settle(image: &[u8], t: &[u8; 576], i: usize, nets: &mut [u8])
-    requires { ⌜ GateTable (now t) ⌝ }
-    requires { ⌜ (checkRefusal (now image) ≡ none) × (i < sizesOf (now image) .nets) × (length (now nets) ≡ 40960) × Both (now nets) (sizesOf (now image) .nets) ⌝ }
-    ensures { λ r. ⌜ now (nets .exit) ≡ settledAt (now (image .entry)) i (now (nets .entry)) ⌝ }
+fn settle(image: &[u8], t: &[u8], width: usize, i: usize, nets: &mut [u8])
+    requires { ⌜ Tabled width (now t) ⌝ }
+    requires { ⌜ (checkRefusal (now image) ≡ none) × (i < sizesOf (now image) .nets) × (length (now nets) ≡ 40960) × Both width (now nets) (sizesOf (now image) .nets) ⌝ }
+    ensures { λ r. ⌜ now (nets .exit) ≡ settledAt width (now (image .entry)) i (now (nets .entry)) ⌝ }
 {
     let kind = kind_of(image, i);
     if NOT <= kind {
         let a = operand_of(image, i, 0);
         let b = operand_of(image, i, 1);
         let c = operand_of(image, i, 2);
-        let x = gate_byte(t, kind, nets[a], nets[b], nets[c]);
-        put_both(nets, i, x);
+        let x = code_by(t, width, kind, nets[a], nets[b], nets[c]);
+        put_both(nets, i, x, inverse(t, width, x));
     }
 }
 
 // The nets from `from` on, four to a turn, as long as there are four; the answer is the first that is left. There is no gate and no OUT
 // below `from`.
-fn settle_fours(image: &[u8], n: usize, t: &[u8; 576], from: usize, nets: &mut [u8]) -> usize
-    requires { ⌜ GateTable (now t) ⌝ }
-    requires { ⌜ (checkRefusal (now image) ≡ none) × (n ≡ sizesOf (now image) .nets) × (length (now nets) ≡ 40960) × Both (now nets) n ⌝ }
+fn settle_fours(image: &[u8], n: usize, t: &[u8], width: usize, from: usize, nets: &mut [u8]) -> usize
+    requires { ⌜ Tabled width (now t) ⌝ }
+    requires { ⌜ (checkRefusal (now image) ≡ none) × (n ≡ sizesOf (now image) .nets) × (length (now nets) ≡ 40960) × Both width (now nets) n ⌝ }
     requires { ⌜ (from ≤ n) × ((i : ℕ) → i < from → kindAt (now image) i < NOT) ⌝ }
-    ensures { λ r. ⌜ (r ≤ n) × Settled (now (image .entry)) (now (nets .entry)) (now (nets .exit)) r ⌝ }
+    ensures { λ r. ⌜ (r ≤ n) × Settled width (now (image .entry)) (now (nets .entry)) (now (nets .exit)) r ⌝ }
 {
     let mut i = from;
     while i + 3 < n {
-        settle(image, t, i, nets);
-        settle(image, t, i + 1, nets);
-        settle(image, t, i + 2, nets);
-        settle(image, t, i + 3, nets);
+        settle(image, t, width, i, nets);
+        settle(image, t, width, i + 1, nets);
+        settle(image, t, width, i + 2, nets);
+        settle(image, t, width, i + 3, nets);
         i += 4;
     }
     i
 }
 
-// All nets from `from` on. There is no gate and no OUT below it. N is read here, ahead of the first store to the nets, so that the compiler
+// All nets from `from` on, by a table of a width. There is no gate and no OUT below it. N is read here, ahead of the first store to the nets, so that the compiler
 // has it at hand for every operand that is read through the view.
-pub fn settle_nets(image: &[u8], t: &[u8; 576], from: usize, nets: &mut [u8])
-    requires { ⌜ GateTable (now t) ⌝ }
-    requires { ⌜ (checkRefusal (now image) ≡ none) × (length (now nets) ≡ 40960) × Both (now nets) (sizesOf (now image) .nets) ⌝ }
+fn settle_all(image: &[u8], t: &[u8], width: usize, from: usize, nets: &mut [u8])
+    requires { ⌜ Tabled width (now t) ⌝ }
+    requires { ⌜ (checkRefusal (now image) ≡ none) × (length (now nets) ≡ 40960) × Both width (now nets) (sizesOf (now image) .nets) ⌝ }
     requires { ⌜ (from ≤ sizesOf (now image) .nets) × ((i : ℕ) → i < from → kindAt (now image) i < NOT) ⌝ }
-    ensures { λ r. ⌜ Settled (now (image .entry)) (now (nets .entry)) (now (nets .exit)) (sizesOf (now (image .entry)) .nets) ⌝ }
+    ensures { λ r. ⌜ Settled width (now (image .entry)) (now (nets .entry)) (now (nets .exit)) (sizesOf (now (image .entry)) .nets) ⌝ }
 {
     let z = sizes_of(image);
     let n = z.nets;
-    let mut i = settle_fours(image, n, t, from, nets);
+    let mut i = settle_fours(image, n, t, width, from, nets);
     while i < n {
-        settle(image, t, i, nets);
+        settle(image, t, width, i, nets);
         i += 1;
     }
+}
+
+// The same, with the width as a number that the compiler sees, so that it has a loop for each.
+pub fn settle_nets(image: &[u8], t: &[u8], width: usize, from: usize, nets: &mut [u8])
+    requires { ⌜ Tabled width (now t) ⌝ }
+    requires { ⌜ (checkRefusal (now image) ≡ none) × (length (now nets) ≡ 40960) × Both width (now nets) (sizesOf (now image) .nets) ⌝ }
+    requires { ⌜ (from ≤ sizesOf (now image) .nets) × ((i : ℕ) → i < from → kindAt (now image) i < NOT) ⌝ }
+    ensures { λ r. ⌜ Settled width (now (image .entry)) (now (nets .entry)) (now (nets .exit)) (sizesOf (now (image .entry)) .nets) ⌝ }
+{
+    if width == 4 {
+        return settle_all(image, t, 4, from, nets);
+    }
+    settle_all(image, t, 8, from, nets);
 }

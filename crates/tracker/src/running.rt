@@ -1,6 +1,7 @@
 // A run: many cycles.
 use crate::refusing::run_refusal;
 use cycle::RunAnswer;
+use gates::table;
 use refusals::Outcome;
 use run_cycles::cycles;
 ghost use mathlib.Core.Path.{_≡_};
@@ -16,5 +17,6 @@ pub fn run(image: &[u8], k: usize, state: &mut [u8], rows: &[u8], outputs: &mut 
     if let Outcome::Refused(r) = o {
         return RunAnswer::Refused(r);
     }
-    RunAnswer::Done(cycles(image, k, state, rows, outputs))
+    let t = table();
+    RunAnswer::Done(cycles(image, &t, 4, k, state, rows, outputs))
 }

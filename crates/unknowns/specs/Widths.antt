@@ -18,6 +18,10 @@ ruleBy width kind a b c = cond (eqb width 4) (gateByte kind a b c) (staticByte k
 unfoldable pub codeBy : (width x : ℕ) → Bool
 codeBy width x = cond (eqb width 4) (ltb x 4) (isCode x)
 
+-- every byte of a list is one
+pub record Coded (width : ℕ) (bs : List ℕ) : Type 0 where
+  pub codes : (i : ℕ) → codeBy width (getD bs i 0) ≡ true
+
 -- where a code stands: by kind, then by the codes of the pins a, b and c
 abbrev pub widthIndex : (width kind a b c : ℕ) → ℕ
 widthIndex width kind a b c = ((kind * width + a) * width + b) * width + c

@@ -3,8 +3,7 @@ mod reading;
 mod tables;
 mod widening;
 
-pub use reading::code_by_4;
-pub use reading::code_by_8;
+pub use reading::code_by;
 pub use reading::inverse;
 pub use tables::mux_codes;
 pub use tables::pair_codes;

@@ -7,7 +7,7 @@ ghost use Rattle.gates.specs.Kinds.{NOT};
 ghost use Rattle.unknowns.specs.Widths.{ruleBy, codeBy, Tabled};
 
 // From a table of plain bytes, with four places for each pin.
-pub fn code_by_4(t: &[u8], kind: u8, a: u8, b: u8, c: u8) -> u8
+fn code_by_4(t: &[u8], kind: u8, a: u8, b: u8, c: u8) -> u8
     requires { ⌜ Tabled 4 (now t) × (kind < 9) ⌝ }
     requires { ⌜ (codeBy 4 a ≡ true) × (codeBy 4 b ≡ true) × (codeBy 4 c ≡ true) ⌝ }
     ensures { λ r. ⌜ r ≡ ruleBy 4 kind a b c ⌝ }
@@ -16,7 +16,7 @@ pub fn code_by_4(t: &[u8], kind: u8, a: u8, b: u8, c: u8) -> u8
 }
 
 // From a table of codes with unknowns, with eight places for each pin.
-pub fn code_by_8(t: &[u8], kind: u8, a: u8, b: u8, c: u8) -> u8
+fn code_by_8(t: &[u8], kind: u8, a: u8, b: u8, c: u8) -> u8
     requires { ⌜ Tabled 8 (now t) × (kind < 9) ⌝ }
     requires { ⌜ (codeBy 8 a ≡ true) × (codeBy 8 b ≡ true) × (codeBy 8 c ≡ true) ⌝ }
     ensures { λ r. ⌜ r ≡ ruleBy 8 kind a b c ⌝ }
@@ -24,13 +24,22 @@ pub fn code_by_8(t: &[u8], kind: u8, a: u8, b: u8, c: u8) -> u8
     t[((kind as usize * 8 + a as usize) * 8 + b as usize) * 8 + c as usize]
 }
 
-// What a NOT of a code gives, from a table of either width.
+// From a table of either width.
+pub fn code_by(t: &[u8], width: usize, kind: u8, a: u8, b: u8, c: u8) -> u8
+    requires { ⌜ Tabled width (now t) × (kind < 9) ⌝ }
+    requires { ⌜ (codeBy width a ≡ true) × (codeBy width b ≡ true) × (codeBy width c ≡ true) ⌝ }
+    ensures { λ r. ⌜ r ≡ ruleBy width kind a b c ⌝ }
+{
+    if width == 4 {
+        return code_by_4(t, kind, a, b, c);
+    }
+    code_by_8(t, kind, a, b, c)
+}
+
+// What a NOT of a code gives.
 pub fn inverse(t: &[u8], width: usize, x: u8) -> u8
     requires { ⌜ Tabled width (now t) × (codeBy width x ≡ true) ⌝ }
     ensures { λ r. ⌜ r ≡ ruleBy width NOT x 0 0 ⌝ }
 {
-    if width == 4 {
-        return code_by_4(t, NOT, x, 0, 0);
-    }
-    code_by_8(t, NOT, x, 0, 0)
+    code_by(t, width, NOT, x, 0, 0)
 }

@@ -4,8 +4,8 @@
 use crate::codes::*;
 use crate::images::INPUT;
 use crate::samples::{gates_on, Sample};
-use reference::{and_byte, and_code, mux_byte, mux_code, not_code, or_byte, or_code, xor_byte};
-use reference::{not_byte, xor_code};
+use reference::{and_byte, mux_byte, not_byte, or_byte, xor_byte};
+use reference::{and_code, mux_code, not_code, or_code, xor_code};
 
 /// The code that joins these bytes, found from the sets of their values and
 /// marks. An unknown bit is 4, and its mark adds 2.

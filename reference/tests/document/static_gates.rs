@@ -8,7 +8,7 @@ use reference::{and_code, mux_code, not_code, or_code, xor_code};
 
 /// A table of a gate: rows are the code of a, columns that of b, each in the
 /// order 0, 1, 2, 3, 4, 6.
-pub type Table = [[u8; 6]; 6];
+type Table = [[u8; 6]; 6];
 
 /// The function gives the table's entry in row a and column b.
 fn check_table(gate: impl Fn(u8, u8) -> u8, table: Table) {

@@ -1,6 +1,6 @@
 //! The refusals of static power-up and static run: request L4 of document 02.
 //! They are those of power-up and run, in the same order, with 18 where 11 and 13
-//! would stand. The helpers of `lent` see to it that no lent byte changed.
+//! would stand. The functions of `lent` see to it that no lent byte changed.
 
 use crate::images::*;
 use crate::lent::*;

@@ -5,6 +5,7 @@ mod calls;
 mod executing;
 mod printing;
 mod reading;
+mod static_calls;
 
 use executing::execute;
 use reading::{read_cases, Case};

@@ -2,23 +2,19 @@
 use Prim.Native.Nat.{ℕ, _≤_, _<_, _-_}
 use borrow.Author.Needs.{needs}
 use native.Mathlib.Omega.{arith}
-use mathlib.Core.Path.{_≡_, refl, sym, ap, _∙_}
-use mathlib.Core.List.{map}
+use mathlib.Core.Path.{_≡_, refl, sym, _∙_}
 use lib.ListN.{length, getD}
 use Rattle.gates.specs.Kinds.{REG}
-use Rattle.gates.specs.Rules.{gateByte}
 use Rattle.image.specs.Image.{sizesOf, kindAt, operandAt}
 use Rattle.image.specs.Pins.{pinNet}
 use Rattle.image.proofs.PinNets.{pin-most}
 use Rattle.checking.proofs.Checked.{Checked, check-none, pin-below}
-use Rattle.cycle.specs.Cycle.{pinByte}
-use Rattle.inverses.proofs.Places.{pin-place}
-use Rattle.lists.proofs.Placing.{Gathering, gather-begins, gather-goes-on, gather-room, gather-ends, listed-places, listed-kind, clocked-listed}
+use Rattle.lists.proofs.Placing.{Gathering, gather-begins, gather-goes-on, gather-room, gather-ends, listed-places, listed-kind}
 use Rattle.lists.proofs.listed.clock_listed.Statement.{statement}
 use Rattle.lists.proofs.listed.clock_listed.Tie as tie
 
 abbrev Inv-loop : tie.InvT-loop
-Inv-loop image list nets state₀ j₀ state j = (j ≤ length list) × Gathering (λ i. pinByte gateByte nets (operandAt image (sizesOf image .nets) i 0)) list state j
+Inv-loop image list nets state₀ j₀ state j = (j ≤ length list) × Gathering (λ i. getD nets (operandAt image (sizesOf image .nets) i 0) 0) list state j
 
 abbrev μ-loop : tie.MeasureT-loop
 μ-loop image list nets state₀ j₀ state j = length list - j
@@ -72,17 +68,10 @@ loop-again c =
     let turn = read .before .before in
     let at = turn .before in
     let below = turn .loop-test .taken in
-    let read-at = pin-place (start turn .pre .0 .2) (read .operand-of .result) (named turn (read .operand-of .ensures .0)) in
-    (omega arith, rw (read-at, read .operand-of .ensures .0) (gather-goes-on below (at .loop .inv .1)))
+    (omega arith, rw (read .operand-of .ensures .0) (gather-goes-on below (at .loop .inv .1)))
 
 returns : tie.Need-returns Inv-loop μ-loop
-returns c =
-    let at = c .before in
-    let begun = at .before .before .before .before .before in
-    let args = begun .args in
-    gather-ends (c .loop-test .left) (at .loop .inv .1)
-    ∙ ap (map (λ i. pinByte gateByte (args .nets .now) (operandAt (args .image .now) (sizesOf (args .image .now) .nets) i 0))) (begun .pre .1 .0)
-    ∙ clocked-listed (args .image .now) refl (args .nets .now)
+returns c = gather-ends (c .loop-test .left) (c .before .loop .inv .1)
 
 pub clock-listed-spec : {M : Type 1} → statement M
 clock-listed-spec =
