@@ -1,4 +1,4 @@
-// The cycles of a run, by lists that are made once. The bytes of the nets stand with their inverses in one local array: of n nets in the first n places and
+// The cycles of a run, by a table of codes and by lists that are made once. The bytes of the nets stand with their inverses in one local array: of n nets in the first n places and
 // in the n places from 32,768 on.
 use cycle::FirstFlow;
 use cycle::RunAnswer;
@@ -15,14 +15,15 @@ use settling::settle_nets;
 ghost use mathlib.Core.Path.{_≡_};
 ghost use mathlib.Core.Option.{none};
 ghost use lib.ListN.{length, take};
-ghost use Rattle.gates.specs.Rules.{gateByte};
-ghost use Rattle.gates.specs.Table.{GateTable};
+ghost use Prim.Native.Nat.{_*_, _≤_};
+ghost use Rattle.unknowns.specs.Widths.{ruleBy, Tabled};
 ghost use Rattle.image.specs.Image.{sizesOf, netsOf};
 ghost use Rattle.cycle.specs.Answers.{verdictIn, firstFlowIn, ran};
-ghost use Rattle.cycle.specs.Cycle.{plain, bytesOf, cycleOf, firstOf};
-ghost use Rattle.cycle.specs.Calls.{stepRefusal, runRefusal, runOf};
+ghost use Rattle.cycle.specs.Cycle.{bytesOf, cycleOf, cyclesOf, firstOf};
+ghost use Rattle.cycle.specs.Calls.{asRun};
 ghost use Rattle.lists.specs.Lists.{Found, Watched};
 ghost use Rattle.settling.specs.Settling.{Prepared};
+ghost use Rattle.run_cycles.specs.Taking.{rulesBy, Takes};
 
 // The bytes of all nets in a cycle: the INPUTs take the row's and the REGs the state's, and then the gates are settled.
 fn work_out_listed(
@@ -35,11 +36,11 @@ fn work_out_listed(
     state: &[u8],
     nets: &mut [u8],
 )
-    requires { ⌜ GateTable (now t) ⌝ }
-    requires { ⌜ (length (now nets) ≡ 40960) × (stepRefusal (now image) (now state) (now row) (take (sizesOf (now image) .nets) (now nets)) ≡ none) ⌝ }
-    requires { ⌜ Found (now image) p (now list) × Prepared (now image) (now nets) (sizesOf (now image) .nets) ⌝ }
-    ensures { λ r. ⌜ take (sizesOf (now (image .entry)) .nets) (now (nets .exit)) ≡ bytesOf gateByte (netsOf (now (image .entry))) (now (row .entry)) (now (state .entry)) ⌝ }
-    ensures { λ r. ⌜ Prepared (now (image .entry)) (now (nets .exit)) (sizesOf (now (image .entry)) .nets) ⌝ }
+    requires { ⌜ Tabled width (now t) ⌝ }
+    requires { ⌜ (length (now nets) ≡ 40960) × Takes width (now image) (now state) (sizesOf (now image) .inputs) (now row) ⌝ }
+    requires { ⌜ Found (now image) p (now list) × Prepared width (now image) (now nets) (sizesOf (now image) .nets) ⌝ }
+    ensures { λ r. ⌜ take (sizesOf (now (image .entry)) .nets) (now (nets .exit)) ≡ bytesOf (ruleBy width) (netsOf (now (image .entry))) (now (row .entry)) (now (state .entry)) ⌝ }
+    ensures { λ r. ⌜ Prepared width (now (image .entry)) (now (nets .exit)) (sizesOf (now (image .entry)) .nets) ⌝ }
 {
     let regs_at = p.regs;
     let outs_at = p.outs;
@@ -66,16 +67,16 @@ fn cycle(
     nets: &mut [u8],
     outputs: &mut [u8],
 ) -> FirstFlow
-    requires { ⌜ GateTable (now t) ⌝ }
-    requires { ⌜ (length (now nets) ≡ 40960) × (stepRefusal (now image) (now state) (now row) (take (sizesOf (now image) .nets) (now nets)) ≡ none) ⌝ }
+    requires { ⌜ Tabled width (now t) ⌝ }
+    requires { ⌜ (length (now nets) ≡ 40960) × Takes width (now image) (now state) (sizesOf (now image) .inputs) (now row) ⌝ }
     requires { ⌜ Found (now image) p (now list) × Watched (now image) p (now protected) ⌝ }
-    requires { ⌜ Prepared (now image) (now nets) (sizesOf (now image) .nets) × (length (now outputs) ≡ sizesOf (now image) .outputs) ⌝ }
+    requires { ⌜ Prepared width (now image) (now nets) (sizesOf (now image) .nets) × (length (now outputs) ≡ sizesOf (now image) .outputs) ⌝ }
     ensures { λ r. ⌜ firstFlowIn r
         ≡ firstOf (earlier .cycle) (verdictIn (earlier .verdict))
-        (firstOf c (cycleOf plain (netsOf (now (image .entry))) (now (row .entry)) (now (state .entry)) .verdict) (firstFlowIn earlier)) ⌝ }
-    ensures { λ r. ⌜ now (outputs .exit) ≡ cycleOf plain (netsOf (now (image .entry))) (now (row .entry)) (now (state .entry)) .outputs ⌝ }
-    ensures { λ r. ⌜ now (state .exit) ≡ cycleOf plain (netsOf (now (image .entry))) (now (row .entry)) (now (state .entry)) .state ⌝ }
-    ensures { λ r. ⌜ Prepared (now (image .entry)) (now (nets .exit)) (sizesOf (now (image .entry)) .nets) ⌝ }
+        (firstOf c (cycleOf (rulesBy width) (netsOf (now (image .entry))) (now (row .entry)) (now (state .entry)) .verdict) (firstFlowIn earlier)) ⌝ }
+    ensures { λ r. ⌜ now (outputs .exit) ≡ cycleOf (rulesBy width) (netsOf (now (image .entry))) (now (row .entry)) (now (state .entry)) .outputs ⌝ }
+    ensures { λ r. ⌜ now (state .exit) ≡ cycleOf (rulesBy width) (netsOf (now (image .entry))) (now (row .entry)) (now (state .entry)) .state ⌝ }
+    ensures { λ r. ⌜ Prepared width (now (image .entry)) (now (nets .exit)) (sizesOf (now (image .entry)) .nets) ⌝ }
 {
     work_out_listed(image, p, t, width, list, row, state, nets);
     let regs_at = p.regs;
@@ -90,7 +91,7 @@ fn cycle(
     first
 }
 
-// The k cycles of an accepted run, each on its own part of the rows and of the outputs.
+// The k cycles of an accepted run by a table of a width, each on its own part of the rows and of the outputs.
 pub fn cycles(
     image: &[u8],
     t: &[u8],
@@ -100,9 +101,11 @@ pub fn cycles(
     rows: &[u8],
     outputs: &mut [u8],
 ) -> FirstFlow
-    requires { ⌜ runRefusal (now image) (now state) k (now rows) (now outputs) ≡ none ⌝ }
+    requires { ⌜ Tabled width (now t) ⌝ }
+    requires { ⌜ Takes width (now image) (now state) (k * sizesOf (now image) .inputs) (now rows) ⌝ }
+    requires { ⌜ (k ≤ 4096) × (length (now outputs) ≡ k * sizesOf (now image) .outputs) ⌝ }
     ensures { λ r. ⌜ ran (RunAnswer.Done r) (now (state .exit)) (now (outputs .exit))
-        ≡ runOf (now (image .entry)) (now (state .entry)) k (now (rows .entry)) (now (outputs .entry)) ⌝ }
+        ≡ asRun (now (state .entry)) (cyclesOf (rulesBy width) (netsOf (now (image .entry))) (sizesOf (now (image .entry)) .inputs) k (now (rows .entry)) (now (state .entry))) ⌝ }
 {
     let z = sizes_of(image);
     let n = z.nets;

@@ -4,4 +4,5 @@ pub mod Covered
 pub mod Exact
 pub mod Known
 pub mod Places
+pub mod Outs
 pub mod Wider

@@ -1,22 +1,24 @@
 -- Tables with places for the codes of the pins: what their codes are, for both widths, and the table of width 8 as it is written.
-use Prim.Native.Nat.{ℕ, _+_, _*_, _≤_, _<_, _/_, _%_}
+use Prim.Native.Nat.{ℕ, zero, suc, _+_, _-_, _*_, _≤_, _<_, _/_, _%_}
 use native.Mathlib.Nat.{eq-or-lt-of-le}
 use native.Mathlib.Omega.{arith}
 use mathlib.Core.Logic.{_⊎_, ⊎-elim, inl, inr}
 use mathlib.Core.Path.{_≡_, refl, sym, ap, _∙_}
-use mathlib.Core.List.{List}
+use mathlib.Core.List.{List, flatMap}
 use mathlib.Core.Bool.{Bool, true, false, cond}
 use lib.Dec.{eqb, ltb, lit<}
 use lib.ListN.{length, getD, set, length-set}
 use lib.Seq.{getD-set-same, getD-set-other}
 use borrow.Author.Tests.{lt-ltb, ltb-true}
-use Rattle.gates.specs.Rules.{gateByte}
+use Rattle.gates.specs.Kinds.{NOT, OUT}
+use Rattle.gates.specs.Rules.{value, mark, byte, notByte, gateByte}
 use Rattle.gates.specs.Table.{codeIndex, GateTable}
 use Rattle.gates.proofs.Laws.{gates-code}
-use Rattle.unknowns.specs.Filling.{isCode, staticByte}
+use Rattle.unknowns.specs.Filling.{isCode, fillings, filled, codeOf, staticByte}
 use Rattle.unknowns.specs.Widths.{ruleBy, codeBy, widthIndex, Tabled, Wide}
 use Rattle.unknowns.proofs.CodesAll.{is-code, byte-code, code-small}
 use Rattle.unknowns.proofs.Known.{static-code}
+use Rattle.unknowns.proofs.Outs.{out-unread}
 
 -- THE CODES of a width
 pub code-4 : (x : ℕ) → codeBy 4 x ≡ true → x < 4
@@ -30,6 +32,10 @@ code-8 x h = code-small (is-code x h)
 -- each is below the width
 pub code-below : {w : ℕ} {t : List ℕ} → Tabled w t → (x : ℕ) → codeBy w x ≡ true → x < w
 code-below t x h = ⊎-elim (λ e. rw e (code-4 x (rw e at h))) (λ e. rw e (code-8 x (rw e at h))) (t .width-is)
+
+-- a width that is not 4 is 8
+pub other-width : {w : ℕ} {t : List ℕ} → Tabled w t → (w ≡ 4 → ⊥) → w ≡ 8
+other-width t other = ⊎-elim (λ e. absurd (other e)) (λ e. e) (t .width-is)
 
 -- a CONST's byte is one, and the rule gives codes
 pub const-code : (w a : ℕ) → a ≤ 1 → codeBy w a ≡ true
@@ -50,6 +56,26 @@ rule-code w kind a b c = by-width (eqb w 4)
         let g : gateByte kind a b c ≤ 3 = gates-code kind a a b b c c (omega (arith, ltb-true a 4 ha)) (omega (arith, ltb-true b 4 hb)) (omega (arith, ltb-true c 4 hc)) in
         lt-ltb (gateByte kind a b c) 4 (omega arith)
     by-width false ha hb hc = static-code kind a b c
+
+-- a NOT of a known trusted bit is the other one
+either-width : (b : Bool) (x : ℕ) → cond b x x ≡ x
+either-width true x = refl
+either-width false x = refl
+
+pub not-known : (w x : ℕ) → x ≤ 1 → ruleBy w NOT x 0 0 ≡ 1 - x
+unfolding ruleBy gateByte notByte value mark byte staticByte filled fillings codeOf flatMap
+not-known w zero h = either-width (eqb w 4) 1
+not-known w (suc zero) h = either-width (eqb w 4) 0
+not-known w (suc (suc x)) h = absurd (omega arith)
+
+-- an OUT looks at pin a alone
+pub policy-unread : (w a b b′ c : ℕ) → ruleBy w OUT a b c ≡ ruleBy w OUT a b′ c
+unfolding ruleBy gateByte
+policy-unread w a b b′ c = by-width (eqb w 4)
+  where
+    by-width : (q : Bool) → cond q a (staticByte OUT a b c) ≡ cond q a (staticByte OUT a b′ c)
+    by-width true = refl
+    by-width false = out-unread a b b′ c
 
 -- WIDTH 4: the plain table
 pub plain-tabled : {t : List ℕ} → length t ≡ 576 → GateTable t → Tabled 4 t

@@ -8,18 +8,17 @@ use lib.Seq.{length-take-le}
 use Rattle.gates.specs.Kinds.{INPUT, REG}
 use Rattle.image.specs.Image.{sizesOf}
 use Rattle.checking.proofs.Checked.{check-none}
-use Rattle.cycle.proofs.Calls.{Ready, step-none}
-use Rattle.cycle.proofs.Cycles.{low-codes}
+use Rattle.cycle.proofs.Calls.{ReadyOf}
 use Rattle.lists.specs.Lists.{Found}
 use Rattle.lists.proofs.Placing.{places-fit, listed-places}
 use Rattle.inverses.specs.Inverses.{Both}
-use Rattle.run_cycles.proofs.Cycling.{put-both, settled-bytes, settled-prepared, list-size}
+use Rattle.run_cycles.proofs.Cycling.{put-both, settled-bytes, settled-prepared, list-size, IsCodeBy, taken-ready}
 use Rattle.run_cycles.proofs.running.work_out_listed.Statement.{statement}
 use Rattle.run_cycles.proofs.running.work_out_listed.Tie as tie
 
 module _ (c : tie.Start) where
-  ready : Ready (c .args .image .now) (c .args .state .now) (sizesOf (c .args .image .now) .inputs) (c .args .row .now)
-  ready = step-none _ _ _ _ .0 (c .pre .1 .0 .1) .0
+  ready : ReadyOf (IsCodeBy (c .args .width)) (c .args .image .now) (c .args .state .now) (sizesOf (c .args .image .now) .inputs) (c .args .row .now)
+  ready = taken-ready (c .pre .1 .0 .1)
 
   found : Found (c .args .image .now) (c .args .p) (c .args .list .now)
   found = c .pre .1 .1 .0
@@ -32,23 +31,26 @@ module _ (c : tie.Start) where
 
 slice-aggregate-ins : tie.Need-slice-aggregate-ins
 slice-aggregate-ins c =
-    let order = found (c .before .before .before .before .before .before) .in-order in
+    let order = found (c .before .before .before .before .before .before .before) .in-order in
     sym (length-take-le _ _ (omega (arith, order .0, order .1, order .2)))
 
 put-bytes-requires : tie.Need-put-bytes-requires
 put-bytes-requires c κs =
-    let start = c .before .before .before .before .before .before .before .before in
+    let start = c .before .before .before .before .before .before .before .before .before in
     let s = start .args .image .now in
     let f = found start in
     let r = ready start in
-    (r .size ∙ r .image .inputs ∙ sym (list-size s INPUT (f .ins)), low-codes (r .codes), places-fit (few start) (listed-places s refl INPUT (f .ins)), size start)
+    (
+      (start .pre .0, start .pre .1 .0 .1 .codes),
+      (r .size ∙ r .image .inputs ∙ sym (list-size s INPUT (f .ins)), places-fit (few start) (listed-places s refl INPUT (f .ins)), size start),
+    )
 
 -- after the first
 module _ (c : tie.After-put-bytes) where
   abbrev start₁ : tie.Start
-  start₁ = c .before .before .before .before .before .before .before .before .before
+  start₁ = c .before .before .before .before .before .before .before .before .before .before
 
-  size₁ : length (c .put-bytes .last .1 .1 .0) ≡ 40960
+  size₁ : length (c .put-bytes .last .1 .1 .1 .1 .0) ≡ 40960
   size₁ = c .put-bytes .ensures .size ∙ size start₁
 
 put-bytes-requires-2 : tie.Need-put-bytes-requires-2
@@ -58,7 +60,10 @@ put-bytes-requires-2 c κs =
     let s = start .args .image .now in
     let f = found start in
     let r = ready start in
-    (r .state .size ∙ r .image .registers ∙ sym (list-size s REG (f .regs)), low-codes (r .state .codes), places-fit (few start) (listed-places s refl REG (f .regs)), size₁ first)
+    (
+      (start .pre .0, start .pre .1 .0 .1 .state),
+      (r .state .size ∙ r .image .registers ∙ sym (list-size s REG (f .regs)), places-fit (few start) (listed-places s refl REG (f .regs)), size₁ first),
+    )
 
 -- after the second
 module _ (c : tie.After-put-bytes2) where
@@ -68,10 +73,10 @@ module _ (c : tie.After-put-bytes2) where
   abbrev start₂ : tie.Start
   start₂ = start₁ first
 
-  size₂ : length (c .put-bytes2 .last .1 .1 .0) ≡ 40960
+  size₂ : length (c .put-bytes2 .last .1 .1 .1 .1 .0) ≡ 40960
   size₂ = c .put-bytes2 .ensures .size ∙ size₁ first
 
-  both₂ : Both (c .put-bytes2 .last .1 .1 .0) (sizesOf (start₂ .args .image .now) .nets)
+  both₂ : Both (start₂ .args .width) (c .put-bytes2 .last .1 .1 .1 .1 .0) (sizesOf (start₂ .args .image .now) .nets)
   both₂ =
       let f = found start₂ in
       put-both (ready start₂ .image) (size start₂) (start₂ .pre .1 .1 .1) (f .ins) (f .regs) (first .put-bytes .ensures) (c .put-bytes2 .ensures)

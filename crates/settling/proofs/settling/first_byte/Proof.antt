@@ -22,8 +22,12 @@ small false a h = rw (zero-mul a) (omega arith)
 mul-result : tie.Need-mul-result
 mul-result c = record { fits = small (eqb (c .args .kind) CONST) (c .args .a % 2) (omega arith) }
 
+low : (b : Bool) (a : ℕ) → a < 2 → boolByte b * a < 2
+low true a h = rw (one-mul a) h
+low false a h = rw (zero-mul a) (omega arith)
+
 returns : tie.Need-returns
-returns c = picked (eqb (c .args .kind) CONST) (c .args .a % 2)
+returns c = (picked (eqb (c .args .kind) CONST) (c .args .a % 2), low (eqb (c .args .kind) CONST) (c .args .a % 2) (omega arith))
 
 pub first-byte-spec : {M : Type 1} → statement M
 first-byte-spec = tie.close (tie.spec (λ c. search needs) (λ c. search needs) mul-result returns)

@@ -4,14 +4,17 @@ use borrow.Author.Tests.{lt-leb}
 use native.Mathlib.Omega.{arith}
 use mathlib.Core.Path.{_≡_, _∙_}
 use mathlib.Core.List.{List}
+use mathlib.Core.Bool.{true}
 use lib.ListN.{length, getD}
 use Rattle.image.specs.Image.{sizesOf, net, kindAt, operandAt}
 use Rattle.image.specs.Pins.{pinNet}
 use Rattle.checking.proofs.Checked.{Checked, check-none}
+use Rattle.unknowns.specs.Widths.{codeBy}
+use Rattle.unknowns.proofs.Wider.{rule-code}
 use Rattle.inverses.specs.Inverses.{Both}
 use Rattle.inverses.proofs.Places.{put-size, pin-place}
 use Rattle.settling.specs.Settling.{settledAt}
-use Rattle.settling.proofs.Gatewise.{Pins, pins-there, pin-there, pin-low, gate-low, takes-code}
+use Rattle.settling.proofs.Gatewise.{Pins, pins-there, pin-there, pin-coded, takes-code}
 use Rattle.settling.proofs.settling.settle.Statement.{statement}
 use Rattle.settling.proofs.settling.settle.Tie as tie
 
@@ -23,11 +26,11 @@ abbrev n : tie.Start → ℕ
 n c = sizesOf (c .args .image .now) .nets
 
 kind-of-requires : tie.Need-kind-of-requires
-kind-of-requires c κs = let start = c .before .before in omega (arith, checked start .exact, start .pre .1 .1)
+kind-of-requires c κs = let start = c .before .before .before in omega (arith, checked start .exact, start .pre .1 .1)
 
 -- the function's entry, from where its kind is read
 abbrev start : tie.After-kind-of → tie.Start
-start c = c .before .before .before
+start c = c .before .before .before .before
 
 is-gate : (c : tie.Then1) → let args = start (c .before) .args in 3 ≤ kindAt (args .image .now) (args .i)
 is-gate c = rw (c .before .kind-of .ensures) at (c .if1 .taken)
@@ -75,19 +78,19 @@ module _ (c : tie.After-operand-of3) where
   there : (p : ℕ) → pinNet p < n begun → p < length (begun .args .nets .now)
   there p h = rw (begun .pre .1 .2) (pin-there p few h)
 
-  both : Both (begun .args .nets .now) (n begun)
+  both : Both (begun .args .width) (begun .args .nets .now) (n begun)
   both = begun .pre .1 .3
 
-slice-read-gate-byte : tie.Need-slice-read-gate-byte
-slice-read-gate-byte c = let read = c .before in there read _ (named-a read)
+slice-read-code-by : tie.Need-slice-read-code-by
+slice-read-code-by c = let read = c .before in there read _ (named-a read)
 
-slice-read-gate-byte-2 : tie.Need-slice-read-gate-byte-2
-slice-read-gate-byte-2 c = let read = c .before .before in there read _ (named-b read)
+slice-read-code-by-2 : tie.Need-slice-read-code-by-2
+slice-read-code-by-2 c = let read = c .before .before in there read _ (named-b read)
 
-slice-read-gate-byte-3 : tie.Need-slice-read-gate-byte-3
-slice-read-gate-byte-3 c = let read = c .before .before .before in there read _ (named-c read)
+slice-read-code-by-3 : tie.Need-slice-read-code-by-3
+slice-read-code-by-3 c = let read = c .before .before .before in there read _ (named-c read)
 
--- what is read there is 0 to 3
+-- what is read there is a code
 module _ (c : tie.After-slice-known4) where
   abbrev read : tie.After-operand-of3
   read = c .before .before .before
@@ -95,40 +98,43 @@ module _ (c : tie.After-slice-known4) where
   abbrev nets : List ℕ
   nets = begun read .args .nets .now
 
-  low-a : getD nets (first read .operand-of .result) 0 < 4
-  low-a = pin-low (both read) _ (named-a read)
+  code-a : codeBy (begun read .args .width) (getD nets (first read .operand-of .result) 0) ≡ true
+  code-a = pin-coded (both read) _ (named-a read)
 
-  low-b : getD nets (second read .operand-of2 .result) 0 < 4
-  low-b = pin-low (both read) _ (named-b read)
+  code-b : codeBy (begun read .args .width) (getD nets (second read .operand-of2 .result) 0) ≡ true
+  code-b = pin-coded (both read) _ (named-b read)
 
-  low-c : getD nets (read .operand-of3 .result) 0 < 4
-  low-c = pin-low (both read) _ (named-c read)
+  code-c : codeBy (begun read .args .width) (getD nets (read .operand-of3 .result) 0) ≡ true
+  code-c = pin-coded (both read) _ (named-c read)
 
-gate-byte-requires : tie.Need-gate-byte-requires
-gate-byte-requires c κs =
+code-by-requires : tie.Need-code-by-requires
+code-by-requires c κs =
     let at = taken (read c) in
-    (begun (read c) .pre .0, (rw (at .before .kind-of .ensures) (pins at .kind), (low-a c, low-b c, low-c c)))
+    ((begun (read c) .pre .0, rw (at .before .kind-of .ensures) (pins at .kind)), (code-a c, code-b c, code-c c))
+
+inverse-requires : tie.Need-inverse-requires
+inverse-requires c κs =
+    let gate = c .before in
+    let known = gate .before in
+    (begun (read known) .pre .0, rw (gate .code-by .ensures) (rule-code _ _ _ _ _ (code-a known) (code-b known) (code-c known)))
 
 put-both-requires : tie.Need-put-both-requires
 put-both-requires c κs =
-    let gate = c .before in
-    let known = gate .before in
-    let at = begun (read known) in (
-      omega (arith, at .pre .1 .1, few (read known)),
-      omega (arith, at .pre .1 .1, few (read known), at .pre .1 .2),
-      rw (gate .gate-byte .ensures) (gate-low _ _ _ _ (low-a known) (low-b known) (low-c known)),
-    )
+    let known = c .before .before .before in
+    let at = begun (read known) in
+    (omega (arith, at .pre .1 .1, few (read known)), omega (arith, at .pre .1 .1, few (read known), at .pre .1 .2))
 
 returns : tie.Need-returns
 returns c =
     let put = c .before .before in
-    let gate = put .before .before in
+    let inverted = put .before in
+    let gate = inverted .before .before in
     let at = read (gate .before) in
     let reads = pin-place (both at) in
     put .put-both .ensures
-    ∙ takes-code _ _ _ (taken at .before .kind-of .ensures) (is-gate (taken at))
+    ∙ takes-code _ _ _ _ (taken at .before .kind-of .ensures) (is-gate (taken at))
     (first at .operand-of .ensures .0) (second at .operand-of2 .ensures .0) (at .operand-of3 .ensures .0)
-    (reads _ (named-a at)) (reads _ (named-b at)) (reads _ (named-c at)) (gate .gate-byte .ensures)
+    (reads _ (named-a at)) (reads _ (named-b at)) (reads _ (named-c at)) (gate .code-by .ensures) (inverted .inverse .ensures)
 
 returns-2 : tie.Need-returns-2
 unfolding settledAt
@@ -144,11 +150,12 @@ settle-spec =
     (λ c κs. reads (start (c .before)) 0 (omega arith))
     (λ c κs. reads (start (c .before .before)) 1 (omega arith))
     (λ c κs. reads (start (c .before .before .before)) 2 (omega arith))
-    slice-read-gate-byte
-    slice-read-gate-byte-2
-    slice-read-gate-byte-3
-    gate-byte-requires
+    slice-read-code-by
+    slice-read-code-by-2
+    slice-read-code-by-3
+    code-by-requires
+    inverse-requires
     put-both-requires
-    (λ c. let put = c .before .before in rw (put .put-both .ensures) (put-size _ _ _))
+    (λ c. let put = c .before .before in rw (put .put-both .ensures) (put-size _ _ _ _))
     returns
     returns-2)

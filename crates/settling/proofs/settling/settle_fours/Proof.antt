@@ -5,7 +5,7 @@ use mathlib.Core.Path.{_≡_, _∙_}
 use mathlib.Core.List.{List}
 use mathlib.Core.Option.{none}
 use lib.ListN.{length}
-use Rattle.gates.specs.Table.{GateTable}
+use Rattle.unknowns.specs.Widths.{Tabled}
 use Rattle.image.specs.Image.{sizesOf}
 use Rattle.checking.specs.Check.{checkRefusal}
 use Rattle.checking.proofs.Checked.{Checked, check-none}
@@ -16,13 +16,13 @@ use Rattle.settling.proofs.settling.settle_fours.Statement.{statement}
 use Rattle.settling.proofs.settling.settle_fours.Tie as tie
 
 abbrev Inv-loop : tie.InvT-loop
-Inv-loop image n t from nets₀ i₀ nets i = (i ≤ n) × Settled image nets₀ nets i
+Inv-loop image n t width from nets₀ i₀ nets i = (i ≤ n) × Settled width image nets₀ nets i
 
 abbrev μ-loop : tie.MeasureT-loop
-μ-loop image n t from nets₀ i₀ nets i = n - i
+μ-loop image n t width from nets₀ i₀ nets i = n - i
 
 loop-holds : tie.Need-loop-holds Inv-loop μ-loop
-loop-holds c = let pre = c .before .before .pre in (pre .1 .1 .0, settle-begins (rw (pre .1 .0 .1) at (pre .1 .0 .3)) (pre .1 .1 .1))
+loop-holds c = let pre = c .before .before .before .pre in (pre .1 .1 .0, settle-begins (rw (pre .1 .0 .1) at (pre .1 .0 .3)) (pre .1 .1 .1))
 
 -- what each call of `settle` asks, and what it gives, wherever settling has come to
 module _ (c : tie.Start Inv-loop μ-loop) where
@@ -32,7 +32,7 @@ module _ (c : tie.Start Inv-loop μ-loop) where
   few : c .args .n ≤ 8192
   few = omega (arith, c .pre .1 .0 .1, checked .few-nets)
 
-  module _ {nets : List ℕ} {j : ℕ} (w : Settled (c .args .image .now) (c .args .nets .now) nets j) (h : j < c .args .n) where
+  module _ {nets : List ℕ} {j : ℕ} (w : Settled (c .args .width) (c .args .image .now) (c .args .nets .now) nets j) (h : j < c .args .n) where
     abbrev N : ℕ
     N = sizesOf (c .args .image .now) .nets
 
@@ -42,25 +42,25 @@ module _ (c : tie.Start Inv-loop μ-loop) where
     size : length nets ≡ 40960
     size = w .size ∙ c .pre .1 .0 .2
 
-    asked : GateTable (c .args .t .now) × ((checkRefusal (c .args .image .now) ≡ none) × (j < N) × (length nets ≡ 40960) × Both nets N)
+    asked : Tabled (c .args .width) (c .args .t .now) × ((checkRefusal (c .args .image .now) ≡ none) × (j < N) × (length nets ≡ 40960) × Both (c .args .width) nets N)
     asked = (c .pre .0, (c .pre .1 .0 .0, below, size, w .both))
 
-    next : {exit : List ℕ} {k : ℕ} → exit ≡ settledAt (c .args .image .now) j nets → k ≡ suc j → Settled (c .args .image .now) (c .args .nets .now) exit k
+    next : {exit : List ℕ} {k : ℕ} → exit ≡ settledAt (c .args .width) (c .args .image .now) j nets → k ≡ suc j → Settled (c .args .width) (c .args .image .now) (c .args .nets .now) exit k
     next = settle-next checked below size w
 
 add-loop : tie.Need-add-loop Inv-loop μ-loop
-add-loop c = omega (arith, c .loop .inv .0, few (c .before .before .before))
+add-loop c = omega (arith, c .loop .inv .0, few (c .before .before .before .before))
 
 -- at the head of a turn
 module _ (c : tie.In-loop Inv-loop μ-loop) where
   abbrev start : tie.Start Inv-loop μ-loop
-  start = c .before .before .before .before
+  start = c .before .before .before .before .before
 
   abbrev i : ℕ
   i = c .before .loop .i
 
   abbrev After : List ℕ → ℕ → Type 0
-  After nets k = Settled (start .args .image .now) (start .args .nets .now) nets (i + k)
+  After nets k = Settled (start .args .width) (start .args .image .now) (start .args .nets .now) nets (i + k)
 
   four : i + 3 < start .args .n
   four = c .loop-test .taken
@@ -73,7 +73,7 @@ module _ (c : tie.After-settle Inv-loop μ-loop) where
   abbrev turn₁ : tie.In-loop Inv-loop μ-loop
   turn₁ = c .before .before
 
-  one : After turn₁ (c .settle .last .1 .1 .1 .0) 1
+  one : After turn₁ (c .settle .last .1 .1 .1 .1 .0) 1
   one = next (start turn₁) (turn₁ .before .loop .inv .1) (omega (arith, four turn₁)) (c .settle .ensures) (omega arith)
 
 module _ (c : tie.After-settle2 Inv-loop μ-loop) where
@@ -83,7 +83,7 @@ module _ (c : tie.After-settle2 Inv-loop μ-loop) where
   abbrev turn₂ : tie.In-loop Inv-loop μ-loop
   turn₂ = turn₁ before₂
 
-  two : After turn₂ (c .settle2 .last .1 .1 .1 .0) 2
+  two : After turn₂ (c .settle2 .last .1 .1 .1 .1 .0) 2
   two = next (start turn₂) (one before₂) (omega (arith, four turn₂)) (c .settle2 .ensures) (omega arith)
 
 module _ (c : tie.After-settle3 Inv-loop μ-loop) where
@@ -93,7 +93,7 @@ module _ (c : tie.After-settle3 Inv-loop μ-loop) where
   abbrev turn₃ : tie.In-loop Inv-loop μ-loop
   turn₃ = turn₂ before₃
 
-  three : After turn₃ (c .settle3 .last .1 .1 .1 .0) 3
+  three : After turn₃ (c .settle3 .last .1 .1 .1 .1 .0) 3
   three = next (start turn₃) (two before₃) (omega (arith, four turn₃)) (c .settle3 .ensures) (omega arith)
 
 module _ (c : tie.After-settle4 Inv-loop μ-loop) where
@@ -103,7 +103,7 @@ module _ (c : tie.After-settle4 Inv-loop μ-loop) where
   abbrev turn₄ : tie.In-loop Inv-loop μ-loop
   turn₄ = turn₃ before₄
 
-  all-four : After turn₄ (c .settle4 .last .1 .1 .1 .0) 4
+  all-four : After turn₄ (c .settle4 .last .1 .1 .1 .1 .0) 4
   all-four = next (start turn₄) (three before₄) (omega (arith, four turn₄)) (c .settle4 .ensures) (omega arith)
 
 settle-requires : tie.Need-settle-requires Inv-loop μ-loop

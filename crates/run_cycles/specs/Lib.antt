@@ -1,0 +1,2 @@
+-- What the cycles of a run take, and by which rules they go.
+pub mod Taking
