@@ -22,6 +22,11 @@
  * byte 0 as 1, 1 as 0, 2 as 3 and 3 as 2. A REG reads its pin at the clock, so that its start is taken as it stands. An operand that is no pin must not
  * have the bit.
  *
+ * A static power-up and a static run are on codes. A code is a byte 0 to 3, as above, or TRACKER_UNKNOWN_TRUSTED, 4, for a trusted bit whose value is not
+ * known, or TRACKER_UNKNOWN_UNTRUSTED, 6, for an untrusted one. At each gate every pin that reads 4 is filled with 0 and with 1, and every pin that reads
+ * 6 with 2 and with 3, independently of the other pins, also of those on the same net. The gate's value is known if all fillings agree in it, and it is
+ * marked if any of them is. So an inverted pin and a NOT leave 4 and 6 as they are. A protected OUT with code 2, 3 or 6 is a flow; 4 is not marked.
+ *
  * Every call takes byte buffers as a pointer and a length, and each length must be exactly the one that the call asks for: a longer buffer is refused
  * too. A call reads `image`, `row` and `rows`, and may write `state`, `nets`, `outputs` and `buffer`. It keeps no pointer, takes no memory but the
  * stack, and does not depend on earlier calls. A buffer that a call writes must not overlap another buffer of the same call. No pointer may be null,
@@ -30,7 +35,8 @@
  * Every answer is one number:
  *   - of a call that turned back: the refusal's number x 2^32 + its place. No lent byte has changed, but that 17 sets `buffer` to 0;
  *   - otherwise a number below 2^32: of a check, a power-up or a doubling 0; of a step its verdict, 65,535 for clear or the net of the flow; of a run
- *     the cycle x 65,536 + the verdict; of tracker_doubled_size and tracker_doubled_kind a number of nets, at most 8,192.
+ *     the cycle x 65,536 + the verdict; of tracker_doubled_size and tracker_doubled_kind a number of nets, at most 8,192. The answers of a static
+ *     power-up and a static run are those of a power-up and a run.
  * No verdict is 0, since net 0 is never an OUT. So an answer variable that is still 0, or the answer of tracker_check, does not read as clear; nor
  * does a number of nets.
  */
@@ -50,10 +56,13 @@ enum { TRACKER_MOST_NETS = 8192, TRACKER_MOST_CYCLES = 4096 };
 /* The top bit of a pin, which inverts it: TRACKER_INVERTED + 3 is an inverted pin on net 3. */
 enum { TRACKER_INVERTED = 32768 };
 
+/* The codes of bits whose value is not known, in the state, the rows and the outputs of a static run. */
+enum { TRACKER_UNKNOWN_TRUSTED = 4, TRACKER_UNKNOWN_UNTRUSTED = 6 };
+
 /* The number of a clear verdict, which is no net's number. */
 enum { TRACKER_CLEAR = 65535 };
 
-/* The numbers of refusals, in document 01's table. */
+/* The numbers of refusals: 1 to 17 as in document 01's table, and 18 of document 02. */
 enum {
     TRACKER_IMAGE_TOO_SHORT = 1,   /* under 8 bytes */
     TRACKER_NETS_OUT_OF_RANGE = 2, /* N is 0 or above 8,192 */
@@ -71,7 +80,8 @@ enum {
     TRACKER_BUFFER_LENGTH = 14,    /* not N, or k x O for a run */
     TRACKER_DOUBLED_TOO_LARGE = 15, /* the doubled netlist has more than 8,192 nets */
     TRACKER_DOUBLED_LENGTH = 16,   /* the buffer is not as long as the doubled image */
-    TRACKER_DOUBLED_REFUSED = 17   /* the doubled image draws 1 to 8; never given */
+    TRACKER_DOUBLED_REFUSED = 17,  /* the doubled image draws 1 to 8; never given */
+    TRACKER_STATIC_BYTE = 18       /* a state or row byte of a static run is 5 or above 6; the place is its index */
 };
 
 /* Whether an image is a netlist. Answers 0, or one of the refusals 1 to 8. */
@@ -97,6 +107,30 @@ uint64_t tracker_run(const uint8_t *image, size_t image_length,
                      const uint8_t *rows, size_t rows_length,
                      uint8_t *outputs, size_t outputs_length);
 
+/* Sets each of the R registers to the code of its start: 0 or 1, or, where none is given, TRACKER_UNKNOWN_UNTRUSTED. Answers 0, or one of the refusals 1
+ * to 8 and 10. */
+uint64_t tracker_static_power_up(const uint8_t *image, size_t image_length,
+                                 uint8_t *state, size_t state_length);
+
+/* k clock cycles, at most 4,096, on codes: takes R state codes and k x I row codes, fills k x O output codes and leaves the last state, in codes too.
+ * Answers with the first flow and its cycle, or, with a clear verdict, cycle k.
+ *
+ * A run fills the unknowns of a static run if it takes as many cycles, with 0 or 1 in its state and rows where the static run has 4, with 2 or 3 where
+ * that has 6, chosen for each register and anew for each input in each cycle, and with the same byte everywhere else. If the static verdict is clear,
+ * every such run is clear. Whatever the verdict, where an output or the state left has a code below 4, its value is the one that each such run has
+ * there, and where a code is not marked, no such run has a mark there. So a static run from tracker_static_power_up speaks of all values that registers
+ * without a start may wake with, and on rows of 4 and 6 of all rows with these marks. A flow may be one that no such run has, since each gate is filled
+ * by itself. Where no byte of the state and the rows is 4 or 6, answer and bytes are those of tracker_run.
+ *
+ * Or answers with one of the refusals 1 to 10, 12, 14 and 18. They are tried in this order: 1 to 10, 18 for the state, 12, 18 for the rows, and 14. So
+ * 18 is for the state if the state has such a byte, and otherwise for the rows. A state with 4 or 6 is one for a further static run: tracker_step and
+ * tracker_run refuse it. */
+uint64_t tracker_static_run(const uint8_t *image, size_t image_length,
+                            size_t k,
+                            uint8_t *state, size_t state_length,
+                            const uint8_t *rows, size_t rows_length,
+                            uint8_t *outputs, size_t outputs_length);
+
 /* How big the doubled netlist gets. Writes nothing. Answers with the number of its nets, 2 to 8,192, or one of the refusals 1 to 8 and 15, with which
  * tracker_double would turn back too. */
 uint64_t tracker_doubled_size(const uint8_t *image, size_t image_length);
@@ -118,7 +152,7 @@ uint64_t tracker_double(const uint8_t *image, size_t image_length,
 static inline uint32_t tracker_refusal(uint64_t answer) { return (uint32_t)(answer >> 32); }
 static inline uint32_t tracker_place(uint64_t answer) { return (uint32_t)answer; }
 
-/* The net of the flow in a step's or a run's answer; -1 where the verdict is clear, and -2 where the call turned back and there is no verdict. Of 0,
+/* The net of the flow in the answer of a step, a run or a static run; -1 where the verdict is clear, and -2 where the call turned back and there is no verdict. Of 0,
  * which no step and no run answers, it makes a flow at net 0, which is never an OUT. */
 static inline int32_t tracker_flow(uint64_t answer)
 {
@@ -128,11 +162,15 @@ static inline int32_t tracker_flow(uint64_t answer)
     return verdict == TRACKER_CLEAR ? -1 : verdict;
 }
 
-/* Whether a step or a run answered with a clear verdict: 0 for a flow, for a refusal, and for 0. */
+/* Whether a step, a run or a static run answered with a clear verdict: 0 for a flow, for a refusal, and for 0. */
 static inline int tracker_is_clear(uint64_t answer) { return tracker_flow(answer) == -1; }
 
-/* The cycle in the answer of a run that did not turn back. */
+/* The cycle in the answer of a run or a static run that did not turn back. */
 static inline uint32_t tracker_cycle(uint64_t answer) { return (uint32_t)answer >> 16; }
+
+/* Whether a code has a known value, which is code % 2 then, and whether it is marked. */
+static inline int tracker_is_known(uint8_t code) { return code < 4; }
+static inline int tracker_is_marked(uint8_t code) { return code / 2 % 2 == 1; }
 
 /* The bytes of an image of so many nets, 8 + 7 x nets. For an answer of tracker_doubled_size they are those of the doubled image, and 0 where that call
  * turned back. */

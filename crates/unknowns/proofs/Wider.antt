@@ -78,12 +78,12 @@ policy-unread w a b b′ c = by-width (eqb w 4)
     by-width false = out-unread a b b′ c
 
 -- WIDTH 4: the plain table
-pub plain-tabled : {t : List ℕ} → length t ≡ 576 → GateTable t → Tabled 4 t
+pub plain-tabled : {t : List ℕ} → GateTable t → Tabled 4 t
 unfolding ruleBy
-plain-tabled l g =
+plain-tabled g =
     record {
       width-is = inl refl;
-      size = l;
+      size = g .size;
       codes = λ kind a b c k ha hb hc. g .codes kind a b c k (code-4 a ha) (code-4 b hb) (code-4 c hc);
     }
 

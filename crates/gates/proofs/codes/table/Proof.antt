@@ -20,6 +20,7 @@ filled : (t : List ℕ) → T (every right 0 t) → length t ≡ 576 → GateTab
 unfolding right
 filled t test size =
     record {
+      size = size;
       codes = λ kind a b c hk ha hb hc.
           let p = codeIndex kind a b c in
           let k : p / 64 ≡ kind = omega arith in

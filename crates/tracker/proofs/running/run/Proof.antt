@@ -1,8 +1,12 @@
 -- `tracker::running::run` meets its contract: a refusal leaves the state and the outputs, and else the cycles are run.
-use mathlib.Core.Path.{sym, ap, _∙_}
+use mathlib.Core.Path.{_≡_, sym, ap, _∙_}
+use mathlib.Core.Option.{none}
 use borrow.Author.Needs.{needs}
 use Rattle.refusals.specs.Refusals.{refusalIn}
+use Rattle.unknowns.proofs.Wider.{plain-tabled}
+use Rattle.cycle.specs.Calls.{runRefusal}
 use Rattle.cycle.proofs.Calls.{run-refused}
+use Rattle.run_cycles.proofs.PlainRuns.{plain-taken, plain-run}
 use Rattle.tracker.proofs.running.run.Statement.{statement}
 use Rattle.tracker.proofs.running.run.Tie as tie
 
@@ -11,10 +15,22 @@ returns c =
     let known = c .before in
     sym (run-refused _ _ _ _ _ _ (sym (known .before .before .run-refusal .ensures) ∙ ap refusalIn (known .o .given .1)))
 
+-- no refusal was given
+not-refused : (c : tie.After-enum-told)
+    → let args = c .before .before .before .before .before .before .before .before .before .args in
+    runRefusal (args .image .now) (args .state .now) (args .k) (args .rows .now) (args .outputs .now) ≡ none
+not-refused c = sym (c .before .before .run-refusal .ensures) ∙ ap refusalIn (c .enum-told .given .1)
+
 cycles-requires : tie.Need-cycles-requires
 cycles-requires c κs =
-    let told = c .before .before in
-    sym (told .before .before .run-refusal .ensures) ∙ ap refusalIn (told .enum-told .given .1)
+    let tabled = c .before .before .before in
+    let taken = plain-taken _ _ _ _ _ (not-refused (tabled .before)) in
+    (plain-tabled (tabled .table .ensures), taken)
+
+returns-2 : tie.Need-returns-2
+returns-2 c =
+    let ran = c .before .before .before .before in
+    ran .cycles .ensures ∙ plain-run _ _ _ _ _ (not-refused (ran .before .before .before .before .before))
 
 pub run-spec : {M : Type 1} → statement M
 run-spec =
@@ -26,7 +42,9 @@ run-spec =
     (λ c. search needs)
     returns
     (λ c. search needs)
+    (λ c κs. search needs)
+    (λ c. sym (c .before .table .ensures .size))
     cycles-requires
     (λ c. search needs)
     (λ c. search needs)
-    (λ c. search needs))
+    returns-2)
