@@ -120,7 +120,7 @@ uint64_t tracker_static_power_up(const uint8_t *image, size_t image_length,
  * every such run is clear. Whatever the verdict, where an output or the state left has a code below 4, its value is the one that each such run has
  * there, and where a code is not marked, no such run has a mark there. So a static run from tracker_static_power_up speaks of all values that registers
  * without a start may wake with, and on rows of 4 and 6 of all rows with these marks. A flow may be one that no such run has, since each gate is filled
- * by itself. Where no byte of the state and the rows is 4 or 6, answer and bytes are those of tracker_run.
+ * by itself. Where the state and the rows have bytes 0 to 3 alone, answer and bytes are those of tracker_run.
  *
  * Or answers with one of the refusals 1 to 10, 12, 14 and 18. They are tried in this order: 1 to 10, 18 for the state, 12, 18 for the rows, and 14. So
  * 18 is for the state if the state has such a byte, and otherwise for the rows. A state with 4 or 6 is one for a further static run: tracker_step and
@@ -152,8 +152,8 @@ uint64_t tracker_double(const uint8_t *image, size_t image_length,
 static inline uint32_t tracker_refusal(uint64_t answer) { return (uint32_t)(answer >> 32); }
 static inline uint32_t tracker_place(uint64_t answer) { return (uint32_t)answer; }
 
-/* The net of the flow in the answer of a step, a run or a static run; -1 where the verdict is clear, and -2 where the call turned back and there is no verdict. Of 0,
- * which no step and no run answers, it makes a flow at net 0, which is never an OUT. */
+/* The net of the flow in the answer of a step, a run or a static run; -1 where the verdict is clear, and -2 where the call turned back and there is no
+ * verdict. Of 0, which none of them answers, it makes a flow at net 0, which is never an OUT. */
 static inline int32_t tracker_flow(uint64_t answer)
 {
     int32_t verdict = (int32_t)(answer & 0xffff);

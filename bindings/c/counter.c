@@ -114,13 +114,19 @@ static void power_up_and_run(const uint8_t image[sizeof counter])
     printf("\n");
 }
 
-/* Start 2 is none given: the register wakes untrusted. */
+/* The counter with start 2, which is none given. */
+static void take_start_away(uint8_t unknown[sizeof counter])
+{
+    memcpy(unknown, counter, sizeof counter);
+    unknown[START_OF_NET_1] = 2;
+}
+
+/* Without a start the register wakes untrusted. */
 static void run_without_start(void)
 {
     uint8_t unknown[sizeof counter];
 
-    memcpy(unknown, counter, sizeof counter);
-    unknown[START_OF_NET_1] = 2;
+    take_start_away(unknown);
     printf("without a start, ");
     power_up_and_run(unknown);
 }
@@ -136,6 +142,53 @@ static void run_with_inverted_pin(void)
     inverted[PIN_OF_NET_5 + 1] = (uint8_t)(pin / 256);
     printf("with an inverted output, ");
     power_up_and_run(inverted);
+}
+
+/* Four cycles on codes from static power-up, each with the same code as its row. */
+static void static_power_up_and_run(const uint8_t image[sizeof counter], uint8_t code)
+{
+    uint8_t state[1] = { 0 };
+    uint8_t outputs[4] = { 0 };
+    uint8_t rows[4];
+
+    memset(rows, code, sizeof rows);
+    printf("static power-up: ");
+    print_done(tracker_static_power_up(image, sizeof counter, state, sizeof state));
+    print_bytes("state", state, sizeof state);
+
+    printf("\nstatic run on rows of %u: ", (unsigned)code);
+    print_first_flow(tracker_static_run(image, sizeof counter, 4, state, sizeof state, rows, sizeof rows, outputs, sizeof outputs));
+    print_bytes("outputs", outputs, sizeof outputs);
+    print_bytes("state", state, sizeof state);
+    printf("\n");
+}
+
+/* Verdicts on rows whose values are not given.
+ *
+ * With 4 in each row, unknown and trusted, net 3, the NOT of the input, is 4 in each cycle. In cycle 0 the register has its start 0, so that net 2 is 1.
+ * The AND of 1 and 4 is 0 or 1, by what 4 is filled with, and unmarked either way, hence 4. The register takes it, so that from cycle 1 on nets 2 and 3
+ * are 4, and the AND of 4 and 4 is 4. The OUT has 0 and then 4, and the run is clear: so is every run of four cycles on trusted rows.
+ *
+ * With 6, unknown and untrusted, net 3 is 6. The AND of 1 and 6 is 2 or 3, hence 6. The register has it in cycle 1, where the OUT, net 5, is the first
+ * flow. The AND of 6 and 6 is 2 or 3, hence 6, in all cycles behind it.
+ *
+ * 5 is no code, and stands at index 0 first. */
+static void run_on_unknown_rows(void)
+{
+    static_power_up_and_run(counter, TRACKER_UNKNOWN_TRUSTED);
+    static_power_up_and_run(counter, TRACKER_UNKNOWN_UNTRUSTED);
+    static_power_up_and_run(counter, 5);
+}
+
+/* Without a start the register wakes as 6, and the OUT shows it in cycle 0, which is a flow. On rows of 1, net 3 is 0. Net 2 is 6, and the AND of 6 and
+ * 0 is 0, unmarked, whatever 6 is filled with. So the register has 0 from cycle 1 on, whatever it held. */
+static void static_run_without_start(void)
+{
+    uint8_t unknown[sizeof counter];
+
+    take_start_away(unknown);
+    printf("without a start, ");
+    static_power_up_and_run(unknown, 1);
 }
 
 /* Prints the nets of the doubled netlist, the bytes of its image, and its nets of each kind, CONST to OUT. Answers the bytes, or 0 after a refusal. */
@@ -219,6 +272,8 @@ int main(void)
     power_up_and_run(counter);
     run_without_start();
     run_with_inverted_pin();
+    run_on_unknown_rows();
+    static_run_without_start();
     length = double_counter(doubled);
     run_doubled(doubled, length);
     check_damaged();

@@ -38,6 +38,26 @@ extern "C" {
         outputs: *mut u8,
         outputs_length: usize,
     ) -> u64;
+    /// Sets each register to the code of its start, which is that of an unknown
+    /// untrusted bit where none is given.
+    pub fn tracker_static_power_up(
+        image: *const u8,
+        image_length: usize,
+        state: *mut u8,
+        state_length: usize,
+    ) -> u64;
+    /// Takes k clock cycles on codes.
+    pub fn tracker_static_run(
+        image: *const u8,
+        image_length: usize,
+        k: usize,
+        state: *mut u8,
+        state_length: usize,
+        rows: *const u8,
+        rows_length: usize,
+        outputs: *mut u8,
+        outputs_length: usize,
+    ) -> u64;
     /// How many nets the doubled netlist has.
     pub fn tracker_doubled_size(image: *const u8, image_length: usize) -> u64;
     /// How many nets of one kind the doubled netlist has.
@@ -92,6 +112,41 @@ pub fn run(image: &[u8], k: usize, state: &mut [u8], rows: &[u8], outputs: &mut 
     // so neither overlaps another slice.
     unsafe {
         tracker_run(
+            image.as_ptr(),
+            image.len(),
+            k,
+            state.as_mut_ptr(),
+            state.len(),
+            rows.as_ptr(),
+            rows.len(),
+            outputs.as_mut_ptr(),
+            outputs.len(),
+        )
+    }
+}
+
+/// Sets each register to the code of its start, which is that of an unknown
+/// untrusted bit where none is given.
+pub fn static_power_up(image: &[u8], state: &mut [u8]) -> u64 {
+    // SAFETY: Each pointer and length are those of a slice, which is borrowed
+    // until the call returns; the state is borrowed mutably, so it overlaps
+    // nothing.
+    unsafe { tracker_static_power_up(image.as_ptr(), image.len(), state.as_mut_ptr(), state.len()) }
+}
+
+/// Takes k clock cycles on codes.
+pub fn static_run(
+    image: &[u8],
+    k: usize,
+    state: &mut [u8],
+    rows: &[u8],
+    outputs: &mut [u8],
+) -> u64 {
+    // SAFETY: Each pointer and length are those of a slice, which is borrowed
+    // until the call returns; the state and the outputs are borrowed mutably,
+    // so neither overlaps another slice.
+    unsafe {
+        tracker_static_run(
             image.as_ptr(),
             image.len(),
             k,

@@ -16,6 +16,8 @@
 //! - A *pin* is an operand that names a net, whose byte the gate, the OUT or, at
 //!   the clock, the register reads. With the bit [`kinds::INVERTED`] it reads the
 //!   net's value inverted and its mark as it is.
+//! - A *code* is a byte of a static power-up or a static run: 0 to 3 as above,
+//!   [`codes::UNKNOWN_TRUSTED`] or [`codes::UNKNOWN_UNTRUSTED`].
 //! - The *doubled netlist* is a netlist in which values and marks are both
 //!   ordinary values, worked out by gates.
 //!
@@ -27,6 +29,8 @@
 //! | [`power_up`] | sets each register to its start, or to an untrusted 0 where none is given | 1 to 8 and 10 |
 //! | [`step`] | takes one cycle | 1 to 8 and 10 to 14 |
 //! | [`run`] | takes K cycles | 1 to 14 |
+//! | [`static_power_up`] | sets each register to the code of its start, unknown and untrusted where none is given | 1 to 8 and 10 |
+//! | [`static_run`] | takes K cycles on codes, for all values of unknown bits | 1 to 10, 12, 14 and 18 |
 //! | [`doubled_size`] | says how big the doubled netlist gets | 1 to 8 and 15 |
 //! | [`double`] | writes the doubled netlist | 1 to 8 and 15 to 17 |
 //!
@@ -54,6 +58,7 @@
 
 mod answers;
 mod calls;
+pub mod codes;
 mod doubled_size;
 mod encoding;
 #[allow(unsafe_code)]
@@ -66,6 +71,7 @@ mod net;
 mod reason;
 mod refusal;
 mod sizes;
+mod static_calls;
 mod verdict;
 
 pub use calls::{check, double, doubled_size, power_up, run, step};
@@ -78,6 +84,7 @@ pub use net::Net;
 pub use reason::Reason;
 pub use refusal::Refusal;
 pub use sizes::{sizes, Sizes};
+pub use static_calls::{static_power_up, static_run};
 pub use verdict::{FirstFlow, Verdict};
 
 /// The README, whose example is compiled and run as a test.

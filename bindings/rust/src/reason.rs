@@ -7,8 +7,9 @@ use std::fmt;
 ///
 /// They are tried by rising number, except that nets are tried in turn, each
 /// for [`Kind`](Reason::Kind), [`Pin`](Reason::Pin), [`Value`](Reason::Value)
-/// and [`UnlistedOperand`](Reason::UnlistedOperand). Later releases may add
-/// numbers.
+/// and [`UnlistedOperand`](Reason::UnlistedOperand), and that
+/// [`StaticByte`](Reason::StaticByte) stands where [`StateByte`](Reason::StateByte)
+/// and [`RowByte`](Reason::RowByte) do. Later releases may add numbers.
 #[derive(Debug, Clone, Copy, PartialEq, Eq, Hash)]
 #[non_exhaustive]
 #[repr(u32)]
@@ -53,10 +54,14 @@ pub enum Reason {
     /// 17: The finished doubled image draws one of 1 to 8, and the buffer is
     /// set to 0. No image leads here.
     DoubledRefused = 17,
+    /// 18: A state or row byte of a static run is 5 or above 6. The place is the
+    /// index of the first one, in the state or, if all bytes of that are codes,
+    /// in the rows.
+    StaticByte = 18,
 }
 
 /// Every reason of this release, by rising number.
-const REASONS: [Reason; 17] = [
+const REASONS: [Reason; 18] = [
     Reason::ImageTooShort,
     Reason::NetsOutOfRange,
     Reason::ImageLength,
@@ -74,6 +79,7 @@ const REASONS: [Reason; 17] = [
     Reason::DoubledTooLarge,
     Reason::DoubledLength,
     Reason::DoubledRefused,
+    Reason::StaticByte,
 ];
 
 impl Reason {
@@ -92,7 +98,7 @@ impl Reason {
     pub(crate) fn place_word(self) -> Option<&'static str> {
         match self {
             Reason::Kind | Reason::Pin | Reason::Value | Reason::UnlistedOperand => Some("net"),
-            Reason::StateByte | Reason::RowByte => Some("index"),
+            Reason::StateByte | Reason::RowByte | Reason::StaticByte => Some("index"),
             _ => None,
         }
     }
@@ -117,6 +123,7 @@ impl Reason {
             Reason::DoubledTooLarge => "the doubled netlist has more than 8,192 nets",
             Reason::DoubledLength => "the doubled buffer's length is not the doubled image's",
             Reason::DoubledRefused => "the finished doubled image was refused; buffer set to 0",
+            Reason::StaticByte => "a state or row byte of a static run is 5 or above 6",
         }
     }
 }

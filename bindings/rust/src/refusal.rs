@@ -18,8 +18,8 @@ use std::fmt;
 pub struct Refusal {
     /// The condition.
     pub reason: Reason,
-    /// The net for the numbers 4 to 7, the index of the first bad byte for 11
-    /// and 13, and otherwise 0.
+    /// The net for the numbers 4 to 7, the index of the first bad byte for 11,
+    /// 13 and 18, and otherwise 0.
     pub place: usize,
 }
 

@@ -10,7 +10,7 @@ use lib.ListN.{length}
 use borrow.Author.Tests.{ltb-false, leb-false, eqb-true, eqb-false, not-false, le-ltb, lt-leb, eq-eqb, ne-eqb}
 use Rattle.gates.proofs.Laws.{Code}
 use Rattle.refusals.specs.declared.answer.Refusal.{Refusal}
-use Rattle.refusals.specs.Refusals.{refuse, _then_, badByte, badLength}
+use Rattle.refusals.specs.Refusals.{refuse, _then_, badAbove, badByte, badLength}
 
 pub then-none : (p q : Option Refusal) → (p then q ≡ none) ↔ ((p ≡ none) × (q ≡ none))
 then-none none q = (λ h. (refl, h), λ h. h .1)
@@ -60,7 +60,19 @@ module _ (bad : ℕ → Bool) {A : ℕ → ℕ → Type 0} (good : (x y : ℕ) �
   pub none-bad : (number i : ℕ) (xs : List ℕ) → (badByte bad number i xs ≡ none) ↔ Forall₂ A xs xs
   none-bad number i xs = (none-found number i xs, no-bad-byte number i)
 
--- of the plain bytes
+-- of the plain bytes: 5 is above 3 anyway
+above-3 : (x : ℕ) → badAbove 3 x ≡ ltb 3 x
+above-3 x = by-5 (eqb x 5) refl
+  where
+    by-5 : (b : Bool) → eqb x 5 ≡ b → (b || ltb 3 x) ≡ ltb 3 x
+    by-5 true e = rw (eqb-true x 5 e)
+    by-5 false e = refl
+
+pub plain-bad : (number i : ℕ) (xs : List ℕ) → badByte (badAbove 3) number i xs ≡ badByte (ltb 3) number i xs
+unfolding badByte
+plain-bad number i [] = refl
+plain-bad number i (x ∷ xs) = rw (above-3 x, plain-bad number (suc i) xs)
+
 pub byte-none : (number i : ℕ) (xs : List ℕ) → (badByte (ltb 3) number i xs ≡ none) ↔ Codes xs
 byte-none = none-bad (ltb 3) (λ x y. not-above 3 x)
 

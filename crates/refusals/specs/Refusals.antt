@@ -3,12 +3,13 @@
 use Prim.Native.Nat.{ℕ, suc}
 use mathlib.Core.List.{List, [], _∷_}
 use mathlib.Core.Option.{Option, none, some}
-use mathlib.Core.Bool.{Bool, not, cond}
+use mathlib.Core.Bool.{Bool, _||_, not, cond}
 use lib.Dec.{eqb, ltb}
 use lib.ListN.{length}
 use Rattle.refusals.specs.declared.answer.Outcome.{Outcome}
 use Rattle.refusals.specs.declared.answer.Outcome.the-variants.{Done, Refused}
 use Rattle.refusals.specs.declared.answer.Refusal.{Refusal}
+use Rattle.refusals.specs.declared.lent.Bytes.{Bytes}
 
 -- a refusal's number in the table, and its place
 abbrev pub refusal : (number place : ℕ) → Refusal
@@ -38,6 +39,14 @@ pub record Alphabet : Type 0 where
 -- 11 for a state byte above 3, and 13 for a row byte above 3
 abbrev pub plainBytes : Alphabet
 plainBytes = record { bad = ltb 3; in-state = 11; in-rows = 13 }
+
+-- A term of the contracts of the tests of a lent slice: where `top` is the highest code, 5, which is no code, and every byte above top are bad
+abbrev pub badAbove : (top x : ℕ) → Bool
+badAbove top x = eqb x 5 || ltb top x
+
+-- the bytes that a call takes, as the code has them (`Bytes` is the struct of src/lent.rt)
+abbrev pub alphabetOf : Bytes → Alphabet
+alphabetOf b = record { bad = badAbove (b .top); in-state = b .in_state; in-rows = b .in_rows }
 
 -- the refusal at the index of the first bad byte of a list, the first of which has index i
 unfoldable pub badByte : (bad : ℕ → Bool) (number i : ℕ) → List ℕ → Option Refusal

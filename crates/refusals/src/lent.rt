@@ -7,31 +7,45 @@ ghost use mathlib.Core.Option.{none};
 ghost use Prim.Native.Nat.{ℕ};
 ghost use lib.Dec.{eqb};
 ghost use lib.ListN.{length};
-ghost use Rattle.refusals.specs.Refusals.{refuse, _then_, refusalIn, plainBytes, badByte, badLength};
+ghost use Rattle.refusals.specs.Refusals.{refuse, _then_, refusalIn, badAbove, badByte, badLength};
 
-// False only if no byte is above 3. The pass does not end at such a byte, so that the compiler may test many bytes at once.
-fn any_bad(s: &[u8]) -> bool
-    ensures { λ r. ⌜ (r ≡ false → (number : ℕ) → badByte (plainBytes .bad) number 0 (now (s .entry)) ≡ none) ⌝ }
+// The bytes that a call takes: the highest code, and the numbers that a bad byte draws in the state and in the rows.
+pub struct Bytes {
+    pub top: u8,
+    pub in_state: u32,
+    pub in_rows: u32,
+}
+
+// Whether a byte is no code, where `top` is the highest one: 5 is none, and none is above top.
+fn is_bad(top: u8, x: u8) -> bool
+    ensures { λ r. ⌜ r ≡ badAbove top x ⌝ }
+{
+    (x == 5) | (top < x)
+}
+
+// False only if no byte is bad. The pass does not end at a bad byte, so that the compiler may test many bytes at once.
+fn any_bad(top: u8, s: &[u8]) -> bool
+    ensures { λ r. ⌜ (r ≡ false → (number : ℕ) → badByte (badAbove top) number 0 (now (s .entry)) ≡ none) ⌝ }
 {
     let mut bad = false;
     let mut i: usize = 0;
     while i < s.len() {
-        bad = bad | (3 < s[i]);
+        bad = bad | is_bad(top, s[i]);
         i += 1;
     }
     bad
 }
 
-// The index of the first byte above 3, or the length where there is none.
-fn first_bad(s: &[u8]) -> usize
-    ensures { λ r. ⌜ ((number : ℕ) → badByte (plainBytes .bad) number 0 (now (s .entry)) ≡ refuse (not (eqb r (length (now (s .entry))))) number r) ⌝ }
+// The index of the first bad byte, or the length where there is none.
+fn first_bad(top: u8, s: &[u8]) -> usize
+    ensures { λ r. ⌜ ((number : ℕ) → badByte (badAbove top) number 0 (now (s .entry)) ≡ refuse (not (eqb r (length (now (s .entry))))) number r) ⌝ }
 {
-    if !any_bad(s) {
+    if !any_bad(top, s) {
         return s.len();
     }
     let mut i: usize = 0;
     while i < s.len() {
-        if 3 < s[i] {
+        if is_bad(top, s[i]) {
             return i;
         }
         i += 1;
@@ -39,14 +53,14 @@ fn first_bad(s: &[u8]) -> usize
     i
 }
 
-// Two refusals of a lent slice: `number` where it is not n bytes long, and else `next` at its first byte above 3.
-pub fn codes_refusal(number: u32, next: u32, n: usize, s: &[u8]) -> Outcome
-    ensures { λ r. ⌜ refusalIn r ≡ (badLength number n (now (s .entry)) then badByte (plainBytes .bad) next 0 (now (s .entry))) ⌝ }
+// Two refusals of a lent slice: `number` where it is not n bytes long, and else `next` at its first bad byte, where `top` is the highest code.
+pub fn codes_refusal(number: u32, next: u32, n: usize, top: u8, s: &[u8]) -> Outcome
+    ensures { λ r. ⌜ refusalIn r ≡ (badLength number n (now (s .entry)) then badByte (badAbove top) next 0 (now (s .entry))) ⌝ }
 {
     if s.len() != n {
         return refused(number, 0);
     }
-    let bad = first_bad(s);
+    let bad = first_bad(top, s);
     if bad != s.len() {
         return refused(next, bad);
     }

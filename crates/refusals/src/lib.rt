@@ -5,4 +5,5 @@ mod lent;
 pub use answer::Outcome;
 pub use answer::Refusal;
 pub use answer::refused;
+pub use lent::Bytes;
 pub use lent::codes_refusal;

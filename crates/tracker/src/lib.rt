@@ -4,6 +4,7 @@ mod running;
 mod starting;
 mod stepping;
 
+pub use refusing::lent_refusal_by;
 pub use running::run;
 pub use starting::power_up;
 pub use stepping::step;

@@ -2,14 +2,42 @@
 use checking::check;
 use cycle::state_length;
 use image::sizes_of;
+use refusals::Bytes;
 use refusals::Outcome;
 use refusals::codes_refusal;
 use refusals::refused;
 ghost use mathlib.Core.Path.{_≡_};
-ghost use Rattle.refusals.specs.Refusals.{plainBytes, refusalIn};
+ghost use Rattle.refusals.specs.Refusals.{plainBytes, alphabetOf, refusalIn};
 ghost use Rattle.cycle.specs.Calls.{powerUpRefusal, lentRefusal, stepRefusal, runRefusal};
 
-// 10 to 14, by the numbers of bytes that are wanted in the state, in the rows and in the buffer.
+// 10 to 14, by the bytes that a call takes, and by the numbers of bytes that are wanted in the state, in the rows and in the buffer.
+pub fn lent_refusal_by(
+    bytes: Bytes,
+    registers: usize,
+    inputs: usize,
+    filled: usize,
+    state: &[u8],
+    rows: &[u8],
+    buffer: &[u8],
+) -> Outcome
+    ensures { λ r. ⌜ refusalIn r
+        ≡ lentRefusal (alphabetOf bytes) registers inputs filled (now (state .entry)) (now (rows .entry)) (now (buffer .entry)) ⌝ }
+{
+    let o = codes_refusal(10, bytes.in_state, registers, bytes.top, state);
+    if let Outcome::Refused(r) = o {
+        return Outcome::Refused(r);
+    }
+    let p = codes_refusal(12, bytes.in_rows, inputs, bytes.top, rows);
+    if let Outcome::Refused(r) = p {
+        return Outcome::Refused(r);
+    }
+    if buffer.len() != filled {
+        return refused(14, 0);
+    }
+    Outcome::Done
+}
+
+// 10 to 14 of the plain calls, which take bytes 0 to 3.
 fn lent_refusal(
     registers: usize,
     inputs: usize,
@@ -21,18 +49,12 @@ fn lent_refusal(
     ensures { λ r. ⌜ refusalIn r
         ≡ lentRefusal plainBytes registers inputs filled (now (state .entry)) (now (rows .entry)) (now (buffer .entry)) ⌝ }
 {
-    let o = codes_refusal(10, 11, registers, state);
-    if let Outcome::Refused(r) = o {
-        return Outcome::Refused(r);
-    }
-    let p = codes_refusal(12, 13, inputs, rows);
-    if let Outcome::Refused(r) = p {
-        return Outcome::Refused(r);
-    }
-    if buffer.len() != filled {
-        return refused(14, 0);
-    }
-    Outcome::Done
+    let bytes = Bytes {
+        top: 3,
+        in_state: 11,
+        in_rows: 13,
+    };
+    lent_refusal_by(bytes, registers, inputs, filled, state, rows, buffer)
 }
 
 // Power-up: 1 to 8 and 10.

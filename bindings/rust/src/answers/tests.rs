@@ -44,7 +44,7 @@ fn a_figure_is_a_number_of_nets() {
     assert_eq!(doubled_kind(8_192), Ok(8_192));
 }
 
-// 1, 6, 9, 13, 15, 16 and 17 times 2^32, and the place: 33,554,431 is the index of
+// 1, 6, 9, 13, 15, 16, 17 and 18 times 2^32, and the place: 33,554,431 is the index of
 // the last of 4,096 × 8,192 row bytes.
 #[test]
 fn a_refusal_holds_its_number_above_the_place() {
@@ -59,12 +59,14 @@ fn a_refusal_holds_its_number_above_the_place() {
     assert_eq!(doubled_kind(25_769_803_781), refused(Reason::Value, 5));
     assert_eq!(done(68_719_476_736), refused(Reason::DoubledLength, 0));
     assert_eq!(done(73_014_444_032), refused(Reason::DoubledRefused, 0));
+    assert_eq!(run(77_309_411_328), refused(Reason::StaticByte, 0));
+    assert_eq!(run(77_342_965_759), refused(Reason::StaticByte, 33_554_431));
 }
 
 #[test]
-#[should_panic(expected = "the answer 77309411328, which this wrapper does not know")]
-fn refusal_18_is_unknown() {
-    let _ = done(77_309_411_328);
+#[should_panic(expected = "the answer 81604378624, which this wrapper does not know")]
+fn refusal_19_is_unknown() {
+    let _ = done(81_604_378_624);
 }
 
 #[test]

@@ -4,8 +4,8 @@ use super::*;
 use crate::Refusal;
 
 #[test]
-fn the_numbers_1_to_17_each_have_a_reason() {
-    for (number, reason) in (1..=17).zip(REASONS) {
+fn the_numbers_1_to_18_each_have_a_reason() {
+    for (number, reason) in (1..=18).zip(REASONS) {
         assert_eq!(reason.number(), number);
         assert_eq!(Reason::from_number(number), Some(reason));
     }
@@ -13,7 +13,7 @@ fn the_numbers_1_to_17_each_have_a_reason() {
 
 #[test]
 fn no_other_number_has_one() {
-    for number in [0, 18, 26, u32::MAX] {
+    for number in [0, 19, 26, u32::MAX] {
         assert_eq!(Reason::from_number(number), None);
     }
 }
@@ -23,7 +23,7 @@ fn nets_and_indexes_are_places_and_the_others_have_none() {
     for reason in REASONS {
         let word = match reason.number() {
             4..=7 => Some("net"),
-            11 | 13 => Some("index"),
+            11 | 13 | 18 => Some("index"),
             _ => None,
         };
         assert_eq!(reason.place_word(), word);
@@ -44,5 +44,9 @@ fn a_refusal_says_its_place_where_it_has_one() {
     assert_eq!(
         words(Reason::StateByte, 0),
         "refusal 11 at index 0: a state byte is above 3"
+    );
+    assert_eq!(
+        words(Reason::StaticByte, 7),
+        "refusal 18 at index 7: a state or row byte of a static run is 5 or above 6"
     );
 }

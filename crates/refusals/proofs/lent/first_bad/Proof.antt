@@ -1,21 +1,20 @@
 -- `refusals::lent::first_bad` meets its contract. At index i, the first bad byte is that of the bytes that are left.
 use Prim.Native.Nat.{ℕ, _-_, _≤_}
 use native.Mathlib.Omega.{arith}
-use mathlib.Core.Path.{_≡_, refl, _∙_}
-use lib.Dec.{ltb}
+use mathlib.Core.Path.{_≡_, refl, sym, _∙_}
 use lib.ListN.{length, drop}
 use borrow.Author.Needs.{needs}
-use borrow.Author.Tests.{eq-eqb, ne-eqb, not-true, lt-ltb, le-ltb}
-use Rattle.refusals.specs.Refusals.{badByte}
+use borrow.Author.Tests.{eq-eqb, ne-eqb, not-true}
+use Rattle.refusals.specs.Refusals.{badAbove, badByte}
 use Rattle.refusals.proofs.BadBytes.{bad-here, bad-later, bad-nowhere}
 use Rattle.refusals.proofs.lent.first_bad.Statement.{statement}
 use Rattle.refusals.proofs.lent.first_bad.Tie as tie
 
 abbrev Inv-loop : tie.InvT-loop
-Inv-loop s i₀ i = (i ≤ length s) × ((number : ℕ) → badByte (ltb 3) number 0 s ≡ badByte (ltb 3) number i (drop i s))
+Inv-loop top s i₀ i = (i ≤ length s) × ((number : ℕ) → badByte (badAbove top) number 0 s ≡ badByte (badAbove top) number i (drop i s))
 
 abbrev μ-loop : tie.MeasureT-loop
-μ-loop s i₀ i = length s - i
+μ-loop top s i₀ i = length s - i
 
 returns : tie.Need-returns Inv-loop μ-loop
 returns c number =
@@ -24,27 +23,31 @@ returns c number =
 
 returns-2 : tie.Need-returns-2 Inv-loop μ-loop
 returns-2 c number =
-    let turn = c .before .before in
+    let turn = c .before .before .before in
     let at = turn .before in
-    let s = at .before .before .before .before .args .s .now in
+    let given = at .before .before .before .before .args in
     let i = at .loop .i in
-    rw (ne-eqb i (length s) (λ e. omega (arith, turn .loop-test .taken)))
-    (at .loop .inv .1 number ∙ bad-here (ltb 3) number s i (turn .loop-test .taken) (lt-ltb 3 _ (c .if2 .taken)))
+    rw (ne-eqb i (length (given .s .now)) (λ e. omega (arith, turn .loop-test .taken)))
+    (at .loop .inv .1 number ∙ bad-here (badAbove (given .top)) number (given .s .now) i (turn .loop-test .taken) (sym (c .before .is-bad .ensures) ∙ c .if2 .taken))
 
 loop-again : tie.Need-loop-again Inv-loop μ-loop
 loop-again c =
-    let turn = c .before .before in
+    let turn = c .before .before .before in
     let at = turn .before in
-    let s = at .before .before .before .before .args .s .now in
-    (omega arith, λ number. at .loop .inv .1 number ∙ bad-later (ltb 3) number s (at .loop .i) (turn .loop-test .taken) (le-ltb 3 _ (c .if2 .left)))
+    let given = at .before .before .before .before .args in (
+      omega (arith, turn .loop-test .taken),
+      λ number.
+          at .loop .inv .1 number
+          ∙ bad-later (badAbove (given .top)) number (given .s .now) (at .loop .i) (turn .loop-test .taken) (sym (c .before .is-bad .ensures) ∙ c .if2 .left),
+    )
 
 returns-3 : tie.Need-returns-3 Inv-loop μ-loop
 returns-3 c number =
     let at = c .before in
-    let s = at .before .before .before .before .args .s .now in
+    let given = at .before .before .before .before .args in
     let i = at .loop .i in
-    rw (eq-eqb i (length s) (omega (arith, at .loop .inv .0, c .loop-test .left)))
-    (at .loop .inv .1 number ∙ bad-nowhere (ltb 3) number s i (c .loop-test .left))
+    rw (eq-eqb i (length (given .s .now)) (omega (arith, at .loop .inv .0, c .loop-test .left)))
+    (at .loop .inv .1 number ∙ bad-nowhere (badAbove (given .top)) number (given .s .now) i (c .loop-test .left))
 
 pub first-bad-spec : {M : Type 1} → statement M
 first-bad-spec =
@@ -56,6 +59,7 @@ first-bad-spec =
     returns
     (λ c. (search needs, λ number. refl))
     (λ c. search needs)
+    (λ c κs. search needs)
     returns-2
     (λ c. search needs)
     (λ c. search needs)
