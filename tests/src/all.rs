@@ -31,12 +31,22 @@ pub fn chosen(pins: Pins, place: u64, ways: u64, count: usize, size: usize) -> V
 
 /// All lists of so many bytes 0 to 3.
 pub fn all_bytes(length: usize) -> Vec<Vec<u8>> {
+    all_of(&[0, 1, 2, 3], length)
+}
+
+/// All lists of so many codes.
+pub fn all_codes(length: usize) -> Vec<Vec<u8>> {
+    all_of(&[0, 1, 2, 3, 4, 6], length)
+}
+
+/// All lists of so many of these bytes.
+fn all_of(bytes: &[u8], length: usize) -> Vec<Vec<u8>> {
     let mut lists = vec![Vec::new()];
     for _ in 0..length {
         let mut longer = Vec::new();
         for list in lists {
-            for byte in 0..4 {
-                longer.push([&list[..], &[byte]].concat());
+            for byte in bytes {
+                longer.push([&list[..], &[*byte]].concat());
             }
         }
         lists = longer;

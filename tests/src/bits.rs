@@ -1,7 +1,7 @@
 //! Counts of inverted pins in what was tried, and of the top bit where it was
 //! refused.
 
-use crate::call::Name;
+use crate::call::{Name, NAMES};
 use crate::coding::{number_of, place_of};
 use crate::listed::{limit_of, listed_of, net_of, pins_of, setting_of};
 use tracker::kinds::{CONST, INVERTED, OUT};
@@ -12,10 +12,10 @@ use tracker::{Image, Net};
 pub struct Bits {
     /// Accepted calls, in the order of `Name`, by the kind and the operand of a pin
     /// that is inverted.
-    inverted: [[[u64; 3]; 9]; 7],
+    inverted: [[[u64; 3]; 9]; NAMES],
     /// Accepted calls, in the order of `Name`, by the kind of a net, on images in
     /// which no pin is inverted.
-    plain: [[u64; 9]; 7],
+    plain: [[u64; 9]; NAMES],
     /// Accepted calls by the kind of an inverted pin that names the highest net
     /// that it may name.
     highest: [u64; 9],

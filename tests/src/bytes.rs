@@ -63,9 +63,17 @@ pub fn resize(random: &mut Random, bytes: &mut Vec<u8>) {
     bytes.truncate(length);
 }
 
+/// Puts one to three bytes above 3 into a list, unless it is empty.
+pub fn spoil(random: &mut Random, bytes: &mut [u8]) {
+    spoil_by(random, bytes, |random| {
+        let any = random.between(4, 255) as u8;
+        random.pick(&[4, 5, 6, 128, 255, any])
+    });
+}
+
 /// Puts one to three bad bytes into a list, unless it is empty: at the first,
 /// the middle, the last or any index.
-pub fn spoil(random: &mut Random, bytes: &mut [u8]) {
+pub fn spoil_by(random: &mut Random, bytes: &mut [u8], bad: fn(&mut Random) -> u8) {
     if bytes.is_empty() {
         return;
     }
@@ -76,7 +84,6 @@ pub fn spoil(random: &mut Random, bytes: &mut [u8]) {
             2 => bytes.len() - 1,
             _ => random.below(bytes.len()),
         };
-        let any = random.between(4, 255) as u8;
-        bytes[index] = random.pick(&[4, 5, 128, 255, any]);
+        bytes[index] = bad(random);
     }
 }

@@ -1,6 +1,6 @@
 //! One call, with the bytes that it is lent beside the image.
 
-/// The seven calls.
+/// The nine calls.
 #[derive(Clone, Copy, Debug, PartialEq, Eq)]
 pub enum Name {
     Check,
@@ -10,7 +10,12 @@ pub enum Name {
     DoubledSize,
     DoubledKind,
     Double,
+    StaticPowerUp,
+    StaticRun,
 }
+
+/// How many calls there are.
+pub const NAMES: usize = 9;
 
 impl Name {
     /// The name of the function in the library.
@@ -23,6 +28,8 @@ impl Name {
             Name::DoubledSize => "tracker_doubled_size",
             Name::DoubledKind => "tracker_doubled_kind",
             Name::Double => "tracker_double",
+            Name::StaticPowerUp => "tracker_static_power_up",
+            Name::StaticRun => "tracker_static_run",
         }
     }
 
@@ -38,21 +45,41 @@ impl Name {
     pub fn filled(self) -> &'static str {
         match self {
             Name::Step => "nets",
-            Name::Run => "outputs",
+            Name::Run | Name::StaticRun => "outputs",
             _ => "buffer",
         }
     }
 
+    /// The call takes k cycles.
+    pub fn has_k(self) -> bool {
+        matches!(self, Name::Run | Name::StaticRun)
+    }
+
     pub fn has_state(self) -> bool {
-        matches!(self, Name::PowerUp | Name::Step | Name::Run)
+        self.has_rows() || matches!(self, Name::PowerUp | Name::StaticPowerUp)
     }
 
     pub fn has_rows(self) -> bool {
-        matches!(self, Name::Step | Name::Run)
+        self == Name::Step || self.has_k()
     }
 
     pub fn has_filled(self) -> bool {
-        matches!(self, Name::Step | Name::Run | Name::Double)
+        self.has_rows() || self == Name::Double
+    }
+
+    /// The call may turn back with this number.
+    pub fn may_refuse(self, number: u64) -> bool {
+        match number {
+            1..=8 => true,
+            9 => self.has_k(),
+            10 => self.has_state(),
+            11 | 13 => matches!(self, Name::Step | Name::Run),
+            12 | 14 => self.has_rows(),
+            15 => matches!(self, Name::DoubledSize | Name::DoubledKind | Name::Double),
+            16 => self == Name::Double,
+            18 => self == Name::StaticRun,
+            _ => false,
+        }
     }
 }
 
@@ -110,6 +137,20 @@ impl Call {
         }
     }
 
+    pub fn static_power_up(state: Vec<u8>) -> Call {
+        Call {
+            name: Name::StaticPowerUp,
+            ..Call::power_up(state)
+        }
+    }
+
+    pub fn static_run(k: usize, state: Vec<u8>, rows: Vec<u8>, outputs: Vec<u8>) -> Call {
+        Call {
+            name: Name::StaticRun,
+            ..Call::run(k, state, rows, outputs)
+        }
+    }
+
     pub fn doubled_size() -> Call {
         Call::empty(Name::DoubledSize)
     }
@@ -135,7 +176,7 @@ impl Call {
             String::from(self.name.function()),
             format!("image of {} bytes", image.len()),
         ];
-        if self.name == Name::Run {
+        if self.name.has_k() {
             words.push(format!("k {}", self.k));
         }
         if self.name == Name::DoubledKind {

@@ -1,4 +1,4 @@
-//! The seven functions of the compiled library.
+//! The nine functions of the compiled library.
 //!
 //! They are held in a struct, so that a broken stand-in can take the place of
 //! any of them and the harness can be seen to notice it.
@@ -8,15 +8,16 @@ use tracker::ffi;
 /// The type of `tracker_check`: the image.
 pub type Check = unsafe extern "C" fn(*const u8, usize) -> u64;
 
-/// The type of `tracker_power_up`: the image and the state.
+/// The type of `tracker_power_up` and `tracker_static_power_up`: the image and the
+/// state.
 pub type PowerUp = unsafe extern "C" fn(*const u8, usize, *mut u8, usize) -> u64;
 
 /// The type of `tracker_step`: the image, the state, the row and the nets.
 pub type Step =
     unsafe extern "C" fn(*const u8, usize, *mut u8, usize, *const u8, usize, *mut u8, usize) -> u64;
 
-/// The type of `tracker_run`: the image, k, the state, the rows and the
-/// outputs.
+/// The type of `tracker_run` and `tracker_static_run`: the image, k, the state, the
+/// rows and the outputs.
 pub type Run = unsafe extern "C" fn(
     *const u8,
     usize,
@@ -47,6 +48,8 @@ pub struct Calls {
     pub doubled_size: DoubledSize,
     pub doubled_kind: DoubledKind,
     pub double: Double,
+    pub static_power_up: PowerUp,
+    pub static_run: Run,
 }
 
 /// The compiled library itself.
@@ -58,4 +61,6 @@ pub const LIBRARY: Calls = Calls {
     doubled_size: ffi::tracker_doubled_size,
     doubled_kind: ffi::tracker_doubled_kind,
     double: ffi::tracker_double,
+    static_power_up: ffi::tracker_static_power_up,
+    static_run: ffi::tracker_static_run,
 };

@@ -56,10 +56,10 @@ impl<'a> Case<'a> {
         if made.answer != expected.answer || byte.is_some() {
             return Err(self.failure(image, call, made.answer, Some(expected.answer), byte));
         }
-        self.tally.compared += 1;
-        self.tally.note(image, call, made.answer);
         call.state = expected.state;
         call.filled = expected.filled;
+        self.tally.compared += 1;
+        self.tally.note(image, call, made.answer);
         Ok(made.answer)
     }
 
@@ -98,13 +98,14 @@ impl<'a> Case<'a> {
         if byte.is_some() {
             return Err(self.failure(image, call, made.answer, None, byte));
         }
-        if number_of(made.answer) > 16 {
-            return Err(self.broken(image, call, made.answer, "a refusal is one of 1 to 16"));
+        if refused && !call.name.may_refuse(number_of(made.answer)) {
+            let property = "a refusal is one that the call may give";
+            return Err(self.broken(image, call, made.answer, property));
         }
-        self.tally.alone += 1;
-        self.tally.note(image, call, made.answer);
         call.state.copy_from_slice(made.state());
         call.filled.copy_from_slice(made.filled());
+        self.tally.alone += 1;
+        self.tally.note(image, call, made.answer);
         Ok(made.answer)
     }
 

@@ -46,7 +46,7 @@ pub fn in_words(name: Name, answer: u64) -> String {
     };
     match name {
         Name::Step if answer < 65_536 => verdict,
-        Name::Run => format!("cycle {}, {verdict}", answer / 65_536),
+        Name::Run | Name::StaticRun => format!("cycle {}, {verdict}", answer / 65_536),
         Name::DoubledSize | Name::DoubledKind => format!("{answer} nets"),
         _ if answer == 0 => String::from("done"),
         _ => format!("{answer}, which is no answer of this call"),

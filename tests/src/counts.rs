@@ -40,11 +40,13 @@ impl Counts {
         }
     }
 
-    /// A step or a run has a good k and buffers of the right lengths.
+    /// A step, a run or a static run has a good k and buffers of the right lengths.
     pub fn fit(&self, call: &Call) -> bool {
         let (rows, filled) = match call.name {
             Name::Step => (self.inputs, self.nets),
-            Name::Run if call.k <= MOST_CYCLES => (call.k * self.inputs, call.k * self.outputs),
+            name if name.has_k() && call.k <= MOST_CYCLES => {
+                (call.k * self.inputs, call.k * self.outputs)
+            }
             _ => return false,
         };
         call.state.len() == self.registers && call.rows.len() == rows && call.filled.len() == filled

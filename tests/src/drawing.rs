@@ -1,7 +1,8 @@
 //! Random calls on a good netlist, with lengths that are right or made wrong.
 
-use crate::bytes::{resize, spoil, tracked};
+use crate::bytes::{self, resize, tracked};
 use crate::call::{Call, Name};
+use crate::codes;
 use crate::counts::Counts;
 use crate::cycles::{few, with_high_bits, wrapping, NOTED};
 use crate::random::Random;
@@ -19,6 +20,13 @@ pub fn run(random: &mut Random, counts: &Counts, k: usize, state: &[u8]) -> Call
     let rows = tracked(random, k * counts.inputs);
     let outputs = random.bytes(k * counts.outputs);
     Call::run(k, state.to_vec(), rows, outputs)
+}
+
+/// A static run of k cycles on random codes, with right lengths.
+pub fn static_run(random: &mut Random, counts: &Counts, k: usize, state: &[u8]) -> Call {
+    let rows = codes::draw(random, k * counts.inputs);
+    let outputs = random.bytes(k * counts.outputs);
+    Call::static_run(k, state.to_vec(), rows, outputs)
 }
 
 /// A doubling with a buffer of the right length. Where no length is right, the
@@ -48,7 +56,7 @@ fn large_kind(random: &mut Random) -> usize {
 /// Any call with right lengths. The state is lent where the call takes one; for
 /// a power-up, any bytes are.
 pub fn any(random: &mut Random, counts: &Counts, state: &[u8]) -> Call {
-    match random.below(14) {
+    match random.below(17) {
         0 => Call::check(),
         1 => double(random, counts),
         2 | 3 => Call::power_up(random.bytes(counts.registers)),
@@ -57,6 +65,11 @@ pub fn any(random: &mut Random, counts: &Counts, state: &[u8]) -> Call {
         9 => {
             let large = large_kind(random);
             Call::doubled_kind(random.pick(&[0, 1, 2, 3, 4, 5, 6, 7, 8, 9, large]))
+        }
+        10 => Call::static_power_up(random.bytes(counts.registers)),
+        11 | 12 => {
+            let k = few(random);
+            static_run(random, counts, k, state)
         }
         _ => {
             let k = few(random);
@@ -68,10 +81,14 @@ pub fn any(random: &mut Random, counts: &Counts, state: &[u8]) -> Call {
 /// Makes one thing wrong in a call: a length, some bytes, or k. With
 /// `state_too` it may be the state as well.
 pub fn put_fault(random: &mut Random, counts: &Counts, call: &mut Call, state_too: bool) {
+    let spoil = match call.name {
+        Name::StaticRun => codes::spoil,
+        _ => bytes::spoil,
+    };
     match random.below(if state_too { 8 } else { 6 }) {
         0 if call.name.has_rows() => resize(random, &mut call.rows),
         1 | 2 if call.name.has_rows() => spoil(random, &mut call.rows),
-        3 | 4 if call.name == Name::Run => put_other_cycles(random, counts, call),
+        3 | 4 if call.name.has_k() => put_other_cycles(random, counts, call),
         6 if call.name.has_state() => resize(random, &mut call.state),
         7 if call.name.has_state() => spoil(random, &mut call.state),
         _ if call.name.has_filled() => resize(random, &mut call.filled),
@@ -80,7 +97,7 @@ pub fn put_fault(random: &mut Random, counts: &Counts, call: &mut Call, state_to
     }
 }
 
-/// Gives a run another k. The buffers stay as they were, or get the lengths
+/// Gives a run or a static run another k. The buffers stay as they were, or get the lengths
 /// that belong to this k, or those that belong to the product once its high
 /// bits are lost. They never get very long.
 fn put_other_cycles(random: &mut Random, counts: &Counts, call: &mut Call) {

@@ -27,6 +27,11 @@ pub fn expect(image: &[u8], call: &Call) -> Expected {
             reference::doubled_size(image).map(|size| figure(size, call))
         }
         Name::Double => reference::double(image, &mut filled).map(|()| 0),
+        Name::StaticPowerUp => reference::static_power_up(image, &mut state).map(|()| 0),
+        Name::StaticRun => {
+            reference::static_run(image, call.k, &mut state, &call.rows, &mut filled)
+                .map(coding::first_flow)
+        }
     };
     Expected {
         answer: answer.unwrap_or_else(coding::refusal),

@@ -1,7 +1,7 @@
 //! Making a call of the library on lent buffers.
 
 use crate::call::{Call, Name};
-use crate::calls::Calls;
+use crate::calls::{Calls, PowerUp, Run};
 use crate::lent::{Lent, WrongByte};
 use crate::random::Random;
 
@@ -39,6 +39,22 @@ pub fn figure(calls: &Calls, image: &mut Lent, call: &Call) -> u64 {
     }
 }
 
+/// The function of a power-up or a static power-up.
+fn power_up_of(calls: &Calls, name: Name) -> PowerUp {
+    match name {
+        Name::StaticPowerUp => calls.static_power_up,
+        _ => calls.power_up,
+    }
+}
+
+/// The function of a run or a static run.
+fn run_of(calls: &Calls, name: Name) -> Run {
+    match name {
+        Name::StaticRun => calls.static_run,
+        _ => calls.run,
+    }
+}
+
 impl Made {
     /// Calls the function that the call names.
     fn ask(&mut self, calls: &Calls, call: &Call) -> u64 {
@@ -51,7 +67,9 @@ impl Made {
         unsafe {
             match call.name {
                 Name::Check => (calls.check)(image, image_length),
-                Name::PowerUp => (calls.power_up)(image, image_length, state, state_length),
+                Name::PowerUp | Name::StaticPowerUp => {
+                    power_up_of(calls, call.name)(image, image_length, state, state_length)
+                }
                 Name::Step => (calls.step)(
                     image,
                     image_length,
@@ -62,7 +80,7 @@ impl Made {
                     filled,
                     filled_length,
                 ),
-                Name::Run => (calls.run)(
+                Name::Run | Name::StaticRun => run_of(calls, call.name)(
                     image,
                     image_length,
                     call.k,

@@ -21,6 +21,21 @@ pub fn power_up(case: &mut Case, image: &[u8], registers: usize) -> Result<Vec<u
     Ok(powered.state)
 }
 
+/// The state at static power-up of a good image with so many registers.
+pub fn static_power_up(
+    case: &mut Case,
+    image: &[u8],
+    registers: usize,
+) -> Result<Vec<u8>, Box<Failure>> {
+    let mut powered = Call::static_power_up(case.random.bytes(registers));
+    let answer = case.ask(image, &mut powered)?;
+    if answer != 0 {
+        let property = "a good image is statically powered up";
+        return Err(case.broken(image, &powered, answer, property));
+    }
+    Ok(powered.state)
+}
+
 /// A state with which a netlist may wake. Each register has its start, trusted,
 /// or, where none is given, any value, untrusted.
 pub fn waking(random: &mut Random, image: Image) -> Vec<u8> {

@@ -7,7 +7,7 @@ use mathlib.Core.Bool.{Bool, _&&_, _||_, not, cond}
 use lib.Dec.{eqb, leb, ltb}
 use lib.ListN.{length, getD, take, drop, replicate}
 use Rattle.gates.specs.Kinds.{CONST, INPUT, REG, OUT}
-use Rattle.gates.specs.Rules.{gateByte}
+use Rattle.gates.specs.Rules.{mark, gateByte}
 use Rattle.image.specs.declared.image.Net.{Net}
 use Rattle.image.specs.Image.{sizesOf, netsOf, encode}
 use Rattle.refusals.specs.declared.answer.Refusal.{Refusal}

@@ -1,3 +1,4 @@
 -- Laws of the pass that works out all nets.
 pub mod Reading
 pub mod Walking
+pub mod Starts

@@ -1,2 +1,3 @@
 -- When a net can be worked out.
 pub mod Readable
+pub mod Starting

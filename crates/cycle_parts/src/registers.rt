@@ -12,30 +12,30 @@ ghost use Rattle.image.specs.Image.{sizesOf, netsOf};
 ghost use Rattle.checking.specs.Check.{checkRefusal};
 ghost use Rattle.cycle.specs.Codes.{Low};
 ghost use Rattle.cycle.specs.Cycle.{clocked};
-ghost use Rattle.cycle.specs.Calls.{start, starts};
+ghost use Rattle.cycle_parts.specs.Starting.{startBy, startsBy};
 
-// The byte that a register powers up with, by its operand b: the start value, trusted; or, where none is given, value 0 and mark 1.
-fn start_byte(b: usize) -> u8
-    ensures { λ r. ⌜ r ≡ start b ⌝ }
+// The byte that a register powers up with, by its operand b: the start value, trusted; or, where none is given, `wake`.
+fn start_byte(b: usize, wake: u8) -> u8
+    ensures { λ r. ⌜ r ≡ startBy wake b ⌝ }
 {
     match b {
         1 => 1,
-        2 => 2,
+        2 => wake,
         _ => 0,
     }
 }
 
-// Every register takes its start byte.
-pub fn take_starts(image: &[u8], n: usize, state: &mut [u8])
+// Every register takes its start byte; one without a start takes `wake`.
+pub fn take_starts(image: &[u8], n: usize, wake: u8, state: &mut [u8])
     requires { ⌜ checkRefusal (now image) ≡ none ⌝ }
     requires { ⌜ (n ≡ sizesOf (now image) .nets) × (length (now state) ≡ sizesOf (now image) .registers) ⌝ }
-    ensures { λ r. ⌜ now (state .exit) ≡ starts (netsOf (now (image .entry))) ⌝ }
+    ensures { λ r. ⌜ now (state .exit) ≡ startsBy wake (netsOf (now (image .entry))) ⌝ }
 {
     let mut j: usize = 0;
     let mut i: usize = 0;
     while i < n {
         if kind_of(image, i) == REG {
-            state[j] = start_byte(operand_of(image, i, 1));
+            state[j] = start_byte(operand_of(image, i, 1), wake);
             j += 1;
         }
         i += 1;

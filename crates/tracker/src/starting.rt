@@ -17,6 +17,6 @@ pub fn power_up(image: &[u8], state: &mut [u8]) -> Outcome
         return Outcome::Refused(r);
     }
     let z = sizes_of(image);
-    take_starts(image, z.nets, state);
+    take_starts(image, z.nets, 2, state);
     Outcome::Done
 }

@@ -10,7 +10,8 @@ use crate::netlists;
 use tracker::{encode, Net};
 
 /// The state starts with good bytes, or with any, which every step and run
-/// refuses until a power-up.
+/// refuses until a power-up. They also refuse a state in which a static run left
+/// unknown bits.
 ///
 /// One list of bytes stands for the library's state and the reference's: each
 /// call is made on both, and the two are found equal before the next one.

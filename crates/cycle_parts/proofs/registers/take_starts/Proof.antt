@@ -8,17 +8,17 @@ use borrow.Author.Needs.{needs}
 use Rattle.gates.specs.Kinds.{REG}
 use Rattle.image.specs.Image.{kindAt, netAt}
 use Rattle.checking.proofs.Checked.{check-none}
-use Rattle.cycle.specs.Calls.{start, starts}
+use Rattle.cycle_parts.specs.Starting.{startBy, startsBy}
 use Rattle.cycle.proofs.Selections.{registers-selected}
 use Rattle.cycle.proofs.Filling.{Pass, pass-reads, pass-begins, pass-room, pass-takes, pass-skips, pass-ends}
 use Rattle.cycle_parts.proofs.registers.take_starts.Statement.{statement}
 use Rattle.cycle_parts.proofs.registers.take_starts.Tie as tie
 
 abbrev Inv-loop : tie.InvT-loop
-Inv-loop image n state₀ j₀ i₀ state j i = Pass (registers-selected (λ x. start (x .b))) image n state₀ state j i
+Inv-loop image n wake state₀ j₀ i₀ state j i = Pass (registers-selected (λ x. startBy wake (x .b))) image n state₀ state j i
 
 abbrev μ-loop : tie.MeasureT-loop
-μ-loop image n state₀ j₀ i₀ state j i = n - i
+μ-loop image n wake state₀ j₀ i₀ state j i = n - i
 
 loop-holds : tie.Need-loop-holds Inv-loop μ-loop
 loop-holds c =
@@ -56,7 +56,7 @@ loop-again c =
     (c .if1 .came)
 
 returns : tie.Need-returns Inv-loop μ-loop
-unfolding starts
+unfolding startsBy
 returns c = pass-ends (c .before .loop .inv) (c .loop-test .left)
 
 pub take-starts-spec : {M : Type 1} → statement M

@@ -8,6 +8,7 @@ use Rattle.refusals.specs.Refusals.{refusalIn}
 use Rattle.checking.proofs.Checked.{check-none}
 use Rattle.cycle.specs.Calls.{powerUpRefusal}
 use Rattle.cycle.proofs.Calls.{power-up-accepted, power-up-refused, power-up-none}
+use Rattle.cycle_parts.proofs.Starts.{plain-starts}
 use Rattle.tracker.proofs.starting.power_up.Statement.{statement}
 use Rattle.tracker.proofs.starting.power_up.Tie as tie
 
@@ -32,7 +33,7 @@ take-starts-requires c κs =
 returns-2 : tie.Need-returns-2
 returns-2 c =
     let started = c .before .before in
-    rw (started .take-starts .ensures) (sym (power-up-accepted _ _ (accepted (started .before .before .before))))
+    rw (started .take-starts .ensures, plain-starts) (sym (power-up-accepted _ _ (accepted (started .before .before .before))))
 
 pub power-up-spec : {M : Type 1} → statement M
 power-up-spec =

@@ -1,0 +1,2 @@
+-- The static calls.
+pub mod StaticCalls

@@ -1,0 +1,22 @@
+// Static power-up.
+use crate::refusing::static_power_up_refusal;
+use cycle_parts::take_starts;
+use image::sizes_of;
+use refusals::Outcome;
+ghost use mathlib.Core.Path.{_≡_};
+ghost use Rattle.cycle.specs.Answers.{poweredUp};
+ghost use Rattle.static_run.specs.StaticCalls.{staticPowerUpOf};
+
+// Every register takes its start value, trusted; or, where none is given, 6, an unknown untrusted bit. What the state held is not looked at. It turns back with
+// 1 to 8 and 10.
+pub fn static_power_up(image: &[u8], state: &mut [u8]) -> Outcome
+    ensures { λ r. ⌜ poweredUp r (now (state .exit)) ≡ staticPowerUpOf (now (image .entry)) (now (state .entry)) ⌝ }
+{
+    let o = static_power_up_refusal(image, state);
+    if let Outcome::Refused(r) = o {
+        return Outcome::Refused(r);
+    }
+    let z = sizes_of(image);
+    take_starts(image, z.nets, 6, state);
+    Outcome::Done
+}
