@@ -97,8 +97,8 @@ pub fn put_fault(random: &mut Random, counts: &Counts, call: &mut Call, state_to
     }
 }
 
-/// Gives a run or a static run another k. The buffers stay as they were, or get the lengths
-/// that belong to this k, or those that belong to the product once its high
+/// Gives a run or a static run another k. The buffers stay as they were, or get the
+/// lengths that belong to this k, or those that belong to the product once its high
 /// bits are lost. They never get very long.
 fn put_other_cycles(random: &mut Random, counts: &Counts, call: &mut Call) {
     call.k = match random.below(5) {
@@ -111,7 +111,10 @@ fn put_other_cycles(random: &mut Random, counts: &Counts, call: &mut Call) {
     if random.chance(2, 3) {
         let rows = call.k.wrapping_mul(counts.inputs);
         if rows <= 70_000 {
-            call.rows = tracked(random, rows);
+            call.rows = match call.name {
+                Name::StaticRun => codes::draw(random, rows),
+                _ => tracked(random, rows),
+            };
         }
         let outputs = call.k.wrapping_mul(counts.outputs);
         if outputs <= 70_000 {

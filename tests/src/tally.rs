@@ -3,8 +3,10 @@
 use std::fmt;
 
 use crate::bits::Bits;
-use crate::call::{Call, Name};
+use crate::call::{Call, Name, NAMES};
 use crate::coding::{number_of, place_of, CLEAR};
+use crate::places::class;
+use crate::unknowns::Unknowns;
 
 /// The counts of all calls that went well.
 #[derive(Default)]
@@ -14,15 +16,17 @@ pub struct Tally {
     /// Calls whose outcome was used for a property of the library alone.
     pub alone: u64,
     /// Calls by the number of their refusal; index 0 counts the accepted ones.
-    pub numbers: [u64; 18],
+    pub numbers: [u64; 19],
     /// Refusals 4 to 7, 11 and 13 by their place: first, last, between.
-    pub places: [[u64; 3]; 18],
+    pub places: [[u64; 3]; 19],
     /// Accepted calls, in the order of `Name`.
-    pub accepted: [u64; 7],
+    pub accepted: [u64; NAMES],
     /// Accepted steps and runs that answered with a flow.
     pub flows: u64,
     /// Inverted pins, and top bits that were refused.
     pub bits: Bits,
+    /// Static calls.
+    pub unknowns: Unknowns,
 }
 
 impl Tally {
@@ -35,6 +39,7 @@ impl Tally {
         let number = number_of(answer) as usize;
         self.numbers[number] += 1;
         self.bits.note(image, call.name, answer);
+        self.unknowns.note(call, answer);
         if number == 0 {
             self.note_accepted(call.name, answer);
         } else if let Some(length) = length_of_places(image, call, number) {
@@ -62,13 +67,16 @@ impl fmt::Display for Tally {
             }
             writeln!(f)?;
         }
-        let [check, power_up, step, run, size, kind, double] = self.accepted;
+        let [check, power_up, step, run, size, kind, double, static_power_up, static_run] =
+            self.accepted;
         writeln!(
             f,
             "accepted: check {check}, power-up {power_up}, step {step}, run {run}, \
-             doubled size {size}, doubled kind {kind}, double {double}"
+             doubled size {size}, doubled kind {kind}, double {double}, \
+             static power-up {static_power_up}, static run {static_run}"
         )?;
-        write!(f, "steps and runs with a flow: {}", self.flows)
+        writeln!(f, "steps and runs with a flow: {}", self.flows)?;
+        write!(f, "{}", self.unknowns)
     }
 }
 
@@ -80,14 +88,5 @@ fn length_of_places(image: &[u8], call: &Call, number: usize) -> Option<usize> {
         11 => Some(call.state.len()),
         13 => Some(call.rows.len()),
         _ => None,
-    }
-}
-
-/// 0 for the first place, 1 for the last, 2 for one between them.
-fn class(place: usize, length: usize) -> usize {
-    match place {
-        0 => 0,
-        _ if place + 1 == length => 1,
-        _ => 2,
     }
 }

@@ -4,6 +4,7 @@
 use crate::bytes::tracked;
 use crate::call::{Call, Name};
 use crate::case::Case;
+use crate::codes;
 use crate::counts::Counts;
 use crate::cycles::few;
 use crate::drawing;
@@ -11,12 +12,17 @@ use crate::failure::Outcome;
 use crate::netlists;
 use tracker::encode;
 
+/// The calls of a case that are static, in one of five cases, and those of the others.
+const STATIC: &[Name] = &[Name::StaticPowerUp, Name::StaticRun, Name::StaticRun];
+const OTHERS: &[Name] = &[Name::PowerUp, Name::Step, Name::Run, Name::Double];
+
 pub fn run(case: &mut Case) -> Outcome {
     let nets = netlists::mostly_small(&mut case.random, 150);
     let counts = Counts::of(&nets);
     let image = encode(&nets);
-    for name in [Name::PowerUp, Name::Step, Name::Run, Name::Double] {
-        let mut call = right_call(case, &counts, name);
+    let names = if case.seed % 5 == 4 { STATIC } else { OTHERS };
+    for name in names {
+        let mut call = right_call(case, &counts, *name);
         for _ in 0..case.random.pick(&[1, 1, 1, 2, 2, 3]) {
             drawing::put_fault(&mut case.random, &counts, &mut call, true);
         }
@@ -40,5 +46,11 @@ fn right_call(case: &mut Case, counts: &Counts, name: Name) -> Call {
         Name::DoubledSize => Call::doubled_size(),
         Name::DoubledKind => Call::doubled_kind(random.below(10)),
         Name::Double => drawing::double(random, counts),
+        Name::StaticPowerUp => Call::static_power_up(random.bytes(counts.registers)),
+        Name::StaticRun => {
+            let state = codes::draw(random, counts.registers);
+            let k = few(random);
+            drawing::static_run(random, counts, k, &state)
+        }
     }
 }

@@ -5,14 +5,18 @@ mod damaged;
 mod doubling;
 mod exhaustive;
 mod extreme;
+mod filling;
 mod four_nets;
 mod good;
+mod known;
 mod large;
 mod lent;
 mod lists;
 mod noise;
 mod operands;
 mod pairing;
+mod static_gates;
+mod static_runs;
 mod steps;
 mod two_runs;
 
@@ -26,9 +30,9 @@ pub struct Family {
     pub run: fn(&mut Case) -> Outcome,
 }
 
-/// All families. The last three try properties of the library alone.
+/// All families. The last five try properties of the library alone.
 #[rustfmt::skip]
-pub static FAMILIES: [Family; 14] = [
+pub static FAMILIES: [Family; 18] = [
     Family { name: "exhaustive", cases: exhaustive::CASES, run: exhaustive::run },
     Family { name: "four_nets", cases: four_nets::CASES, run: four_nets::run },
     Family { name: "operands", cases: operands::CASES, run: operands::run },
@@ -40,9 +44,13 @@ pub static FAMILIES: [Family; 14] = [
     Family { name: "lent", cases: 120_000, run: lent::run },
     Family { name: "lists", cases: 30_000, run: lists::run },
     Family { name: "doubling", cases: 8_000, run: doubling::run },
+    Family { name: "static_gates", cases: static_gates::CASES, run: static_gates::run },
+    Family { name: "static_runs", cases: 20_000, run: static_runs::run },
     Family { name: "pairing", cases: 20_000, run: pairing::run },
     Family { name: "two_runs", cases: 20_000, run: two_runs::run },
     Family { name: "steps", cases: 40_000, run: steps::run },
+    Family { name: "filling", cases: 20_000, run: filling::run },
+    Family { name: "known", cases: 20_000, run: known::run },
 ];
 
 /// The family with this name.
