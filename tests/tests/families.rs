@@ -2,24 +2,31 @@
 
 use std::mem::take;
 use std::time::Instant;
-use tests::{run_family, Bits, Name, Tally, FAMILIES, LIBRARY};
+use tests::{run_family, Bits, Name, Tally, Unknowns, FAMILIES, LIBRARY};
 
-/// Every refusal but 17 must be seen at least so often.
+/// Every refusal but 17 must be seen at least so often, and every one of each static
+/// call.
 const LEAST_SEEN: u64 = 10;
 
 /// The calls in which a family must have inverted pins of all kinds, and images
 /// without any of all kinds, and how often.
 #[rustfmt::skip]
-const INVERTED: [(&str, &[Name], u64); 9] = [
+const INVERTED: [(&str, &[Name], u64); 12] = [
     ("exhaustive", &[Name::Check, Name::PowerUp, Name::Step, Name::Run, Name::Double], 100),
     ("four_nets", &[Name::Check, Name::Step, Name::Run, Name::Double], 1000),
     ("good", &[Name::Check, Name::PowerUp, Name::Step, Name::Run, Name::Double], 1000),
     ("large", &[Name::Check, Name::PowerUp, Name::Step, Name::Run, Name::Double], 50),
-    ("lists", &[Name::Check, Name::PowerUp, Name::Step, Name::Run, Name::Double], 100),
+    ("lists", &[
+        Name::Check, Name::PowerUp, Name::Step, Name::Run, Name::Double,
+        Name::StaticPowerUp, Name::StaticRun,
+    ], 100),
     ("doubling", &[Name::Check, Name::PowerUp, Name::Step, Name::Run, Name::Double], 1000),
     ("pairing", &[Name::PowerUp, Name::Step, Name::Run, Name::Double], 1000),
     ("two_runs", &[Name::PowerUp, Name::Step, Name::Run, Name::Double], 1000),
     ("steps", &[Name::Step, Name::Run], 1000),
+    ("static_runs", &[Name::StaticPowerUp, Name::StaticRun], 1000),
+    ("filling", &[Name::StaticPowerUp, Name::StaticRun, Name::Run], 1000),
+    ("known", &[Name::StaticPowerUp, Name::StaticRun], 1000),
 ];
 
 /// The families in which the top bit must be refused on all operands that must not
@@ -50,7 +57,7 @@ fn all_families() {
 fn enough(tally: &Tally) {
     assert!(tally.compared >= 100_000);
     assert_eq!(tally.numbers[17], 0);
-    for number in 1..=16 {
+    for number in (1..=16).chain([18]) {
         assert!(tally.numbers[number] >= LEAST_SEEN, "refusal {number}");
     }
     for number in [4, 5, 6, 7, 11, 13] {
@@ -64,6 +71,38 @@ fn enough(tally: &Tally) {
     let clear = tally.accepted[2] + tally.accepted[3] - tally.flows;
     assert!(tally.flows >= 10_000);
     assert!(clear >= 10_000);
+    enough_unknowns(&tally.unknowns);
+}
+
+/// Asks that the static calls went everywhere: each of their refusals, 18 for the
+/// state and for the rows at all places and for all bytes, all codes at all that they
+/// leave, and both verdicts.
+fn enough_unknowns(unknowns: &Unknowns) {
+    let names = [Name::StaticPowerUp, Name::StaticRun];
+    for (name, numbers) in names.into_iter().zip(unknowns.numbers) {
+        for (number, seen) in numbers.into_iter().enumerate().skip(1) {
+            let least = if name.may_refuse(number as u64) {
+                LEAST_SEEN
+            } else {
+                0
+            };
+            assert!(seen >= least, "{name:?}, refusal {number}");
+        }
+    }
+    let eighteen = unknowns
+        .places
+        .concat()
+        .into_iter()
+        .chain(unknowns.bad.concat());
+    assert!(eighteen.min() >= Some(LEAST_SEEN));
+    for code in [0, 1, 2, 3, 4, 6] {
+        let seen = unknowns.left.map(|counts| counts[code]);
+        assert!(seen.into_iter().all(|seen| seen >= 10_000), "code {code}");
+    }
+    for code in [0, 1, 6] {
+        assert!(unknowns.powered[code] >= 1000, "powered up as {code}");
+    }
+    assert!(unknowns.verdicts.iter().all(|seen| *seen >= 10_000));
 }
 
 /// Asks that the cases of a family had inverted pins where it must have them.
