@@ -56,7 +56,7 @@ fn large_kind(random: &mut Random) -> usize {
 /// Any call with right lengths. The state is lent where the call takes one; for
 /// a power-up, any bytes are.
 pub fn any(random: &mut Random, counts: &Counts, state: &[u8]) -> Call {
-    match random.below(17) {
+    match random.below(16) {
         0 => Call::check(),
         1 => double(random, counts),
         2 | 3 => Call::power_up(random.bytes(counts.registers)),
@@ -67,7 +67,7 @@ pub fn any(random: &mut Random, counts: &Counts, state: &[u8]) -> Call {
             Call::doubled_kind(random.pick(&[0, 1, 2, 3, 4, 5, 6, 7, 8, 9, large]))
         }
         10 => Call::static_power_up(random.bytes(counts.registers)),
-        11 | 12 => {
+        11 => {
             let k = few(random);
             static_run(random, counts, k, state)
         }
@@ -99,7 +99,8 @@ pub fn put_fault(random: &mut Random, counts: &Counts, call: &mut Call, state_to
 
 /// Gives a run or a static run another k. The buffers stay as they were, or get the
 /// lengths that belong to this k, or those that belong to the product once its high
-/// bits are lost. They never get very long.
+/// bits are lost. They never get very long. Few long static runs get right lengths,
+/// since the reference takes its time for them.
 fn put_other_cycles(random: &mut Random, counts: &Counts, call: &mut Call) {
     call.k = match random.below(5) {
         0 => with_high_bits(random, call.k),
@@ -108,7 +109,8 @@ fn put_other_cycles(random: &mut Random, counts: &Counts, call: &mut Call) {
         3 => random.between(0, MOST_CYCLES + 2),
         _ => random.pick(&NOTED),
     };
-    if random.chance(2, 3) {
+    let is_slow = call.name == Name::StaticRun && (128..=MOST_CYCLES).contains(&call.k);
+    if random.chance(2, if is_slow { 60 } else { 3 }) {
         let rows = call.k.wrapping_mul(counts.inputs);
         if rows <= 70_000 {
             call.rows = match call.name {

@@ -36,7 +36,7 @@ mod waking;
 
 pub use bits::Bits;
 pub use call::Name;
-pub use calls::{Calls, LIBRARY};
+pub use calls::{Calls, Run, LIBRARY};
 pub use driving::{run_case, run_family};
 pub use failure::{Failure, Outcome};
 pub use families::{named, Family, FAMILIES};

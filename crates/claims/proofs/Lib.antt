@@ -27,6 +27,10 @@ pub mod ClearRun
 pub mod Waking
 pub mod UnknownStart
 pub mod DoubledRun
+pub mod StaticCovered
+pub mod StaticRuns
+pub mod StaticBytes
+pub mod StaticPlain
 pub mod Plainly
 pub mod Upright
 pub mod Promised

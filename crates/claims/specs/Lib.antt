@@ -19,6 +19,9 @@ pub mod Pairing
 pub mod TwoRun
 pub mod InBytes
 pub mod UnknownStart
+pub mod StaticRuns
+pub mod StaticBytes
+pub mod StaticPlain
 pub mod Plain
 pub mod Upright
 pub mod Promised

@@ -13,19 +13,19 @@ ghost use Rattle.image.specs.Image.{netsOf};
 ghost use Rattle.checking.specs.Check.{checkRefusal};
 ghost use Rattle.cycle.specs.Answers.{verdictIn, firstFlowIn};
 ghost use Rattle.cycle.specs.Cycle.{firstOf};
-ghost use Rattle.unknowns.specs.Widths.{Coded, Tabled};
+ghost use Rattle.unknowns.specs.Widths.{Coded};
 ghost use Rattle.lists.specs.Lists.{placesFrom, Within, Places, Put, atPins, gathered, firstMarked};
 
-// Each listed net takes a code, in order, with the inverse that the table has for it.
-pub fn put_bytes(t: &[u8], width: usize, list: &[u16], bytes: &[u8], nets: &mut [u8])
-    requires { ⌜ Tabled width (now t) × Coded width (now bytes) ⌝ }
+// Each listed net takes a code, in order, and its inverse.
+pub fn put_bytes(width: usize, list: &[u16], bytes: &[u8], nets: &mut [u8])
+    requires { ⌜ Coded width (now bytes) ⌝ }
     requires { ⌜ (length (now bytes) ≡ length (now list)) × Places 8192 (now list) × (length (now nets) ≡ 40960) ⌝ }
     ensures { λ r. ⌜ Put width (now (list .entry)) (now (bytes .entry)) (now (nets .entry)) (now (nets .exit)) (length (now (list .entry))) ⌝ }
 {
     let mut j: usize = 0;
     while j < list.len() {
         let x = bytes[j];
-        put_both(nets, list[j] as usize, x, inverse(t, width, x));
+        put_both(nets, list[j] as usize, x, inverse(width, x));
         j += 1;
     }
 }

@@ -46,8 +46,8 @@ fn work_out_listed(
     let outs_at = p.outs;
     let ins = &list[..regs_at];
     let regs = &list[regs_at..outs_at];
-    put_bytes(t, width, ins, row, nets);
-    put_bytes(t, width, regs, state, nets);
+    put_bytes(width, ins, row, nets);
+    put_bytes(width, regs, state, nets);
     settle_nets(image, t, width, p.from, nets);
 }
 

@@ -54,7 +54,7 @@ fn settle(image: &[u8], t: &[u8], width: usize, i: usize, nets: &mut [u8])
         let b = operand_of(image, i, 1);
         let c = operand_of(image, i, 2);
         let x = code_by(t, width, kind, nets[a], nets[b], nets[c]);
-        put_both(nets, i, x, inverse(t, width, x));
+        put_both(nets, i, x, inverse(width, x));
     }
 }
 

@@ -18,7 +18,7 @@ pub data IsCode : ℕ → Type 0 where
   unknown : IsCode 4
   untrusted : IsCode 6
 
-by-number : (x : ℕ) → (x ≡ 5 → ⊥) → x ≤ 6 → IsCode x
+pub by-number : (x : ℕ) → (x ≡ 5 → ⊥) → x ≤ 6 → IsCode x
 by-number zero f h = a-byte (lit≤ tt)
 by-number (suc zero) f h = a-byte (lit≤ tt)
 by-number (suc (suc zero)) f h = a-byte (lit≤ tt)

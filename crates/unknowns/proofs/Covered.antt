@@ -1,8 +1,8 @@
 -- A code covers a byte: some filling of the code has the byte's value, and its mark or more. So the code of a gate covers the gate's byte, since a gate's mark
 -- is monotone in the marks of its pins (`gates-monotone`).
-use Prim.Native.Nat.{ℕ, _+_, _*_, _≤_}
+use Prim.Native.Nat.{ℕ, _+_, _*_, _/_, _%_, _≤_}
 use native.Mathlib.Omega.{arith}
-use mathlib.Core.Path.{_≡_, refl, _∙_}
+use mathlib.Core.Path.{_≡_, refl, sym, _∙_}
 use mathlib.Core.List.{List, [], _∷_, map, flatMap, List·Memᴰ, List·Memᴰ·head, List·Memᴰ·tail, Memᴰ·append-left, Memᴰ·append-right, Memᴰ·map}
 use mathlib.Core.Bool.{Bool, true, false, _||_, not, cond, false≢true}
 use lib.Dec.{eqb, lit≤}
@@ -18,6 +18,15 @@ use Rattle.unknowns.proofs.CodesAll.{IsCode, a-byte, unknown, untrusted
 -- a byte covers itself
 pub covers-itself : {x : ℕ} → x ≤ 3 → Covers x x
 covers-itself {x} h = record { exists = byte-code x h; values = λ k. refl; marks = λ m. m; small = h }
+
+-- an unknown trusted bit covers every unmarked one
+unmarked : (x : ℕ) → x ≤ 1 → mark x ≡ false
+unfolding mark
+unmarked x h = let e : x / 2 % 2 ≡ 0 = omega arith in rw e
+
+pub covers-trusted : {x : ℕ} → x ≤ 1 → Covers 4 x
+covers-trusted {x} h =
+    record { exists = refl; values = λ k. absurd (false≢true k); marks = λ m. absurd (false≢true (sym (unmarked x h) ∙ m)); small = omega arith }
 
 -- and an unknown untrusted bit covers every byte
 pub covers-every : {x : ℕ} → x ≤ 3 → Covers 6 x

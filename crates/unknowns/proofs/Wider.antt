@@ -6,18 +6,18 @@ use mathlib.Core.Logic.{_⊎_, ⊎-elim, inl, inr}
 use mathlib.Core.Path.{_≡_, refl, sym, ap, _∙_}
 use mathlib.Core.List.{List, flatMap}
 use mathlib.Core.Bool.{Bool, true, false, cond}
-use lib.Dec.{eqb, ltb, lit<}
+use lib.Dec.{eqb, ltb, lit≤, lit<}
 use lib.ListN.{length, getD, set, length-set}
 use lib.Seq.{getD-set-same, getD-set-other}
-use borrow.Author.Tests.{lt-ltb, ltb-true}
+use borrow.Author.Tests.{lt-ltb, ltb-true, ne-eqb}
 use Rattle.gates.specs.Kinds.{NOT, OUT}
 use Rattle.gates.specs.Rules.{value, mark, byte, notByte, gateByte}
 use Rattle.gates.specs.Table.{codeIndex, GateTable}
 use Rattle.gates.proofs.Laws.{gates-code}
 use Rattle.unknowns.specs.Filling.{isCode, fillings, filled, codeOf, staticByte}
 use Rattle.unknowns.specs.Widths.{ruleBy, codeBy, widthIndex, Tabled, Wide}
-use Rattle.unknowns.proofs.CodesAll.{is-code, byte-code, code-small}
-use Rattle.unknowns.proofs.Known.{static-code}
+use Rattle.unknowns.proofs.CodesAll.{IsCode, a-byte, unknown, untrusted, is-code, byte-code, code-small}
+use Rattle.unknowns.proofs.Known.{static-known, static-code}
 use Rattle.unknowns.proofs.Outs.{out-unread}
 
 -- THE CODES of a width
@@ -67,6 +67,32 @@ unfolding ruleBy gateByte notByte value mark byte staticByte filled fillings cod
 not-known w zero h = either-width (eqb w 4) 1
 not-known w (suc zero) h = either-width (eqb w 4) 0
 not-known w (suc (suc x)) h = absurd (omega arith)
+
+-- what a NOT gives: of a byte the other value with its mark, by either width; of an unknown bit the bit
+pub not-plain : (x : ℕ) → notByte x ≡ ruleBy 4 NOT x 0 0
+unfolding ruleBy gateByte
+not-plain x = refl
+
+pub not-low : (w x : ℕ) → x < 4 → notByte x ≡ ruleBy w NOT x 0 0
+unfolding ruleBy gateByte
+not-low w x h = by-width (eqb w 4)
+  where
+    by-width : (b : Bool) → notByte x ≡ cond b (notByte x) (staticByte NOT x 0 0)
+    by-width true = refl
+    by-width false = sym (static-known NOT x 0 0 (omega arith) (lit≤ tt) (lit≤ tt))
+
+code-wide : (w x : ℕ) → (w ≡ 4 → ⊥) → codeBy w x ≡ true → isCode x ≡ true
+unfolding codeBy
+code-wide w x other h = rw (ne-eqb w 4 other) at h
+
+unknown-stays : (w : ℕ) {x : ℕ} → (w ≡ 4 → ⊥) → IsCode x → 4 ≤ x → ruleBy w NOT x 0 0 ≡ x
+unfolding ruleBy gateByte notByte value mark byte staticByte filled fillings codeOf flatMap
+unknown-stays w other (a-byte l) h = absurd (omega arith)
+unknown-stays w other unknown h = rw (ne-eqb w 4 other)
+unknown-stays w other untrusted h = rw (ne-eqb w 4 other)
+
+pub not-unknown : (w x : ℕ) → (w ≡ 4 → ⊥) → codeBy w x ≡ true → 4 ≤ x → ruleBy w NOT x 0 0 ≡ x
+not-unknown w x other h l = unknown-stays w other (is-code x (code-wide w x other h)) l
 
 -- an OUT looks at pin a alone
 pub policy-unread : (w a b b′ c : ℕ) → ruleBy w OUT a b c ≡ ruleBy w OUT a b′ c

@@ -1,5 +1,5 @@
 // The code of a gate from the codes of its pins, read from one table.
-use gates::NOT;
+use gates::inverted_if;
 ghost use mathlib.Core.Path.{_≡_};
 ghost use mathlib.Core.Bool.{true};
 ghost use Prim.Native.Nat.{_<_};
@@ -36,10 +36,16 @@ pub fn code_by(t: &[u8], width: usize, kind: u8, a: u8, b: u8, c: u8) -> u8
     code_by_8(t, kind, a, b, c)
 }
 
-// What a NOT of a code gives.
-pub fn inverse(t: &[u8], width: usize, x: u8) -> u8
-    requires { ⌜ Tabled width (now t) × (codeBy width x ≡ true) ⌝ }
+// What a NOT of a code gives, by the rule of that width: an unknown bit stays as it is.
+pub fn inverse(width: usize, x: u8) -> u8
+    requires { ⌜ codeBy width x ≡ true ⌝ }
     ensures { λ r. ⌜ r ≡ ruleBy width NOT x 0 0 ⌝ }
 {
-    code_by(t, width, NOT, x, 0, 0)
+    if width == 4 {
+        return inverted_if(x, 1);
+    }
+    if x < 4 {
+        return inverted_if(x, 1);
+    }
+    x
 }

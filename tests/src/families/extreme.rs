@@ -2,7 +2,9 @@
 //! outputs and states that there can be, and a bad byte at their very ends.
 
 use crate::bytes::tracked;
+use crate::call::Call;
 use crate::case::Case;
+use crate::codes;
 use crate::counts::Counts;
 use crate::drawing;
 use crate::failure::Outcome;
@@ -15,23 +17,38 @@ const END: u16 = MOST_NETS as u16;
 
 pub const CASES: u64 = 9;
 
+/// Cases without gates and inverted pins, which are run statically too. At most of the
+/// others the reference would take its time.
+const STATIC: [u64; 3] = [0, 2, 6];
+
 pub fn run(case: &mut Case) -> Outcome {
     let nets = netlist(case);
     let counts = Counts::of(&nets);
     let image = encode(&nets);
     case.compare_figures(&image)?;
     let state = tracked(&mut case.random, counts.registers);
-    let mut run = drawing::run(&mut case.random, &counts, MOST_CYCLES, &state);
-    case.compare(&image, &mut run)?;
-    let last_row_byte = run.rows.len().checked_sub(1);
-    let last_state_byte = run.state.len().checked_sub(1);
-    if let Some(index) = last_row_byte {
-        run.rows[index] = 4;
-        case.compare(&image, &mut run)?;
+    let run = drawing::run(&mut case.random, &counts, MOST_CYCLES, &state);
+    with_bad_ends(case, &image, run, 4)?;
+    if STATIC.contains(&(case.seed % CASES)) {
+        let state = codes::draw(&mut case.random, counts.registers);
+        let run = drawing::static_run(&mut case.random, &counts, MOST_CYCLES, &state);
+        with_bad_ends(case, &image, run, 5)?;
     }
-    if let Some(index) = last_state_byte {
-        run.state[index] = 255;
-        case.compare(&image, &mut run)?;
+    Ok(())
+}
+
+/// Makes a run, and makes it again with a bad byte at the end of its rows, and once
+/// more with 255 at the end of its state.
+fn with_bad_ends(case: &mut Case, image: &[u8], run: Call, bad: u8) -> Outcome {
+    let mut run = run;
+    case.compare(image, &mut run)?;
+    if let Some(byte) = run.rows.last_mut() {
+        *byte = bad;
+        case.compare(image, &mut run)?;
+    }
+    if let Some(byte) = run.state.last_mut() {
+        *byte = 255;
+        case.compare(image, &mut run)?;
     }
     Ok(())
 }

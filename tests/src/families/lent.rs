@@ -13,7 +13,7 @@ use crate::netlists;
 use tracker::encode;
 
 /// The calls of a case that are static, in one of five cases, and those of the others.
-const STATIC: &[Name] = &[Name::StaticPowerUp, Name::StaticRun, Name::StaticRun];
+const STATIC: &[Name] = &[Name::StaticPowerUp, Name::StaticRun];
 const OTHERS: &[Name] = &[Name::PowerUp, Name::Step, Name::Run, Name::Double];
 
 pub fn run(case: &mut Case) -> Outcome {

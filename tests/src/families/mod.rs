@@ -45,7 +45,7 @@ pub static FAMILIES: [Family; 18] = [
     Family { name: "lists", cases: 30_000, run: lists::run },
     Family { name: "doubling", cases: 8_000, run: doubling::run },
     Family { name: "static_gates", cases: static_gates::CASES, run: static_gates::run },
-    Family { name: "static_runs", cases: 20_000, run: static_runs::run },
+    Family { name: "static_runs", cases: 15_000, run: static_runs::run },
     Family { name: "pairing", cases: 20_000, run: pairing::run },
     Family { name: "two_runs", cases: 20_000, run: two_runs::run },
     Family { name: "steps", cases: 40_000, run: steps::run },

@@ -12,7 +12,7 @@ use crate::netlists;
 use tracker::encode;
 
 pub fn run(case: &mut Case) -> Outcome {
-    let nets = netlists::mostly_small(&mut case.random, 100);
+    let nets = netlists::mostly_small(&mut case.random, 200);
     let (counts, image) = (Counts::of(&nets), encode(&nets));
     let mut powered = Call::static_power_up(case.random.bytes(counts.registers));
     case.compare(&image, &mut powered)?;

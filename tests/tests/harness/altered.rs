@@ -1,7 +1,7 @@
 //! Stand-ins that take another image than the one that they are lent: each operand
 //! is altered before a call looks at it.
 
-use crate::parts::bytes;
+use crate::parts::{bytes, library_run};
 use tests::listed::{listed_of, pins_of, setting_of};
 use tests::{Calls, LIBRARY};
 use tracker::kinds::INVERTED;
@@ -76,10 +76,12 @@ const fn altered<const INDEX: usize>() -> Calls {
         check: check::<INDEX>,
         power_up: power_up::<INDEX>,
         step: step::<INDEX>,
-        run: run::<INDEX>,
+        run: run::<INDEX, false>,
         doubled_size: doubled_size::<INDEX>,
         doubled_kind: doubled_kind::<INDEX>,
         double: double::<INDEX>,
+        static_power_up: static_power_up::<INDEX>,
+        static_run: run::<INDEX, true>,
     }
 }
 
@@ -121,11 +123,19 @@ unsafe extern "C" fn step<const INDEX: usize>(
 }
 
 #[rustfmt::skip]
-unsafe extern "C" fn run<const INDEX: usize>(
+unsafe extern "C" fn run<const INDEX: usize, const STATIC: bool>(
     image: *const u8, il: usize, k: usize, state: *mut u8, sl: usize,
     rows: *const u8, rl: usize, outputs: *mut u8, ol: usize,
 ) -> u64 {
-    (LIBRARY.run)(copy::<INDEX>(image, il).as_ptr(), il, k, state, sl, rows, rl, outputs, ol)
+    let copy = copy::<INDEX>(image, il);
+    library_run::<STATIC>()(copy.as_ptr(), il, k, state, sl, rows, rl, outputs, ol)
+}
+
+#[rustfmt::skip]
+unsafe extern "C" fn static_power_up<const INDEX: usize>(
+    image: *const u8, il: usize, state: *mut u8, sl: usize,
+) -> u64 {
+    (LIBRARY.static_power_up)(copy::<INDEX>(image, il).as_ptr(), il, state, sl)
 }
 
 unsafe extern "C" fn doubled_size<const INDEX: usize>(image: *const u8, il: usize) -> u64 {

@@ -1,6 +1,6 @@
 //! Stand-ins with wrong answers. The bytes that they leave are right.
 
-use crate::parts::{bytes, read};
+use crate::parts::{bytes, library_run, read};
 use tests::coding::{number_of, CLEAR};
 use tests::{Calls, LIBRARY};
 use tracker::kinds::OUT;
@@ -78,16 +78,22 @@ unsafe extern "C" fn step_highest_flow(
 
 /// Says clear of every run.
 pub const ALWAYS_CLEAR: Calls = Calls {
-    run: run_always_clear,
+    run: run_always_clear::<false>,
+    ..LIBRARY
+};
+
+/// Says clear of every static run.
+pub const ALWAYS_CLEAR_STATIC: Calls = Calls {
+    static_run: run_always_clear::<true>,
     ..LIBRARY
 };
 
 #[rustfmt::skip]
-unsafe extern "C" fn run_always_clear(
+unsafe extern "C" fn run_always_clear<const STATIC: bool>(
     image: *const u8, il: usize, k: usize, state: *mut u8, sl: usize,
     rows: *const u8, rl: usize, outputs: *mut u8, ol: usize,
 ) -> u64 {
-    let answer = (LIBRARY.run)(image, il, k, state, sl, rows, rl, outputs, ol);
+    let answer = library_run::<STATIC>()(image, il, k, state, sl, rows, rl, outputs, ol);
     match number_of(answer) {
         0 => k as u64 * 65_536 + CLEAR,
         _ => answer,
@@ -120,6 +126,8 @@ pub const TURNS_ALL_BACK: Calls = Calls {
     doubled_size: no_check,
     doubled_kind: no_kind,
     double: no_power_up,
+    static_power_up: no_power_up,
+    static_run: no_run,
 };
 
 extern "C" fn no_check(_: *const u8, _: usize) -> u64 {

@@ -1,7 +1,9 @@
-//! Stand-ins that work out their cycles by wrong rules, in steps and in runs alike.
+//! Stand-ins that work out their cycles by wrong rules, in steps and in runs alike, or
+//! in static runs.
 
-use crate::parts::{bytes, bytes_mut, read};
+use crate::parts::{bytes, bytes_mut, library_run, read};
 use crate::rules::{Rules, RULES};
+use crate::static_rules::STATIC_RULES;
 use tests::coding::{number_of, CLEAR};
 use tests::listed::net_of;
 use tests::{Calls, LIBRARY};
@@ -12,7 +14,15 @@ use tracker::Image;
 pub const fn by_rule<const INDEX: usize>() -> Calls {
     Calls {
         step: step::<INDEX>,
-        run: run::<INDEX>,
+        run: run::<INDEX, false>,
+        ..LIBRARY
+    }
+}
+
+/// The stand-in with the rules of this index in its static runs.
+pub const fn by_static_rule<const INDEX: usize>() -> Calls {
+    Calls {
+        static_run: run::<INDEX, true>,
         ..LIBRARY
     }
 }
@@ -42,7 +52,7 @@ fn cycle(rules: &Rules, image: Image, state: &mut [u8], row: &[u8]) -> (Vec<u8>,
             REG => *registers.next().unwrap(),
             kind => (rules.gate)(kind, net.operands, [pin(0, a), pin(1, b), pin(2, c)]),
         };
-        if net.kind == OUT && b == 1 && nets[number] >= 2 && verdict == CLEAR {
+        if net.kind == OUT && b == 1 && (rules.marked)(nets[number]) && verdict == CLEAR {
             verdict = number as u64;
         }
     }
@@ -51,6 +61,27 @@ fn cycle(rules: &Rules, image: Image, state: &mut [u8], row: &[u8]) -> (Vec<u8>,
         *byte = pin_byte(rules, REG, 0, register.operands[0], &nets);
     }
     (nets, verdict)
+}
+
+/// k cycles by rules: the outputs and the first flow as an answer. The state is left
+/// as after the last one.
+fn cycles(rules: &Rules, image: Image, k: usize, state: &mut [u8], rows: &[u8]) -> (Vec<u8>, u64) {
+    let inputs = image.sizes().inputs;
+    let (mut filled, mut first) = (Vec::new(), k as u64 * 65_536 + CLEAR);
+    for number in 0..k {
+        let row = &rows[number * inputs..(number + 1) * inputs];
+        let (nets, verdict) = cycle(rules, image, state, row);
+        let bytes = image.kinds().iter().zip(nets);
+        filled.extend(
+            bytes
+                .filter(|(kind, _)| **kind == OUT)
+                .map(|(_, byte)| byte),
+        );
+        if verdict != CLEAR && first % 65_536 == CLEAR {
+            first = number as u64 * 65_536 + verdict;
+        }
+    }
+    (filled, first)
 }
 
 #[rustfmt::skip]
@@ -70,27 +101,17 @@ unsafe extern "C" fn step<const INDEX: usize>(
 }
 
 #[rustfmt::skip]
-unsafe extern "C" fn run<const INDEX: usize>(
+unsafe extern "C" fn run<const INDEX: usize, const STATIC: bool>(
     image: *const u8, il: usize, k: usize, state: *mut u8, sl: usize,
     rows: *const u8, rl: usize, outputs: *mut u8, ol: usize,
 ) -> u64 {
     let mut own = bytes(state, sl).to_vec();
-    let answer = (LIBRARY.run)(image, il, k, state, sl, rows, rl, outputs, ol);
+    let rules = if STATIC { &STATIC_RULES[INDEX] } else { &RULES[INDEX] };
+    let answer = library_run::<STATIC>()(image, il, k, state, sl, rows, rl, outputs, ol);
     if number_of(answer) != 0 {
         return answer;
     }
-    let (image, rows) = (read(image, il), bytes(rows, rl));
-    let inputs = image.sizes().inputs;
-    let (mut filled, mut first) = (Vec::new(), k as u64 * 65_536 + CLEAR);
-    for number in 0..k {
-        let row = &rows[number * inputs..(number + 1) * inputs];
-        let (nets, verdict) = cycle(&RULES[INDEX], image, &mut own, row);
-        let bytes = image.kinds().iter().zip(nets);
-        filled.extend(bytes.filter(|(kind, _)| **kind == OUT).map(|(_, byte)| byte));
-        if verdict != CLEAR && first % 65_536 == CLEAR {
-            first = number as u64 * 65_536 + verdict;
-        }
-    }
+    let (filled, first) = cycles(rules, read(image, il), k, &mut own, bytes(rows, rl));
     bytes_mut(state, sl).copy_from_slice(&own);
     bytes_mut(outputs, ol).copy_from_slice(&filled);
     first

@@ -1,6 +1,6 @@
 //! Stand-ins that get the cycles wrong: the clock, or what a run leaves.
 
-use crate::parts::{bytes, bytes_mut, read};
+use crate::parts::{bytes, bytes_mut, library_run, read};
 use reference::not_byte;
 use tests::coding::{number_of, CLEAR};
 use tests::listed::net_of;
@@ -36,17 +36,23 @@ unsafe extern "C" fn step_clocked_in_turn(
 
 /// Fills the outputs up to the first flow only.
 pub const STOPS_AT_FLOW: Calls = Calls {
-    run: run_stops_at_flow,
+    run: run_stops_at_flow::<false>,
+    ..LIBRARY
+};
+
+/// Fills the outputs of a static run up to the first flow only.
+pub const STOPS_AT_FLOW_STATIC: Calls = Calls {
+    static_run: run_stops_at_flow::<true>,
     ..LIBRARY
 };
 
 #[rustfmt::skip]
-unsafe extern "C" fn run_stops_at_flow(
+unsafe extern "C" fn run_stops_at_flow<const STATIC: bool>(
     image: *const u8, il: usize, k: usize, state: *mut u8, sl: usize,
     rows: *const u8, rl: usize, outputs: *mut u8, ol: usize,
 ) -> u64 {
     let before = bytes(outputs, ol).to_vec();
-    let answer = (LIBRARY.run)(image, il, k, state, sl, rows, rl, outputs, ol);
+    let answer = library_run::<STATIC>()(image, il, k, state, sl, rows, rl, outputs, ol);
     if number_of(answer) == 0 && answer % 65_536 != CLEAR {
         let cycles = (answer / 65_536) as usize + 1;
         let filled = cycles * read(image, il).sizes().outputs;
@@ -78,17 +84,23 @@ unsafe extern "C" fn run_copies_cycle_0(
 
 /// Runs and leaves the state with which it began.
 pub const RUN_KEEPS_STATE: Calls = Calls {
-    run: run_keeps_state,
+    run: run_keeps_state::<false>,
+    ..LIBRARY
+};
+
+/// Runs statically and leaves the state with which it began.
+pub const RUN_KEEPS_STATE_STATIC: Calls = Calls {
+    static_run: run_keeps_state::<true>,
     ..LIBRARY
 };
 
 #[rustfmt::skip]
-unsafe extern "C" fn run_keeps_state(
+unsafe extern "C" fn run_keeps_state<const STATIC: bool>(
     image: *const u8, il: usize, k: usize, state: *mut u8, sl: usize,
     rows: *const u8, rl: usize, outputs: *mut u8, ol: usize,
 ) -> u64 {
     let before = bytes(state, sl).to_vec();
-    let answer = (LIBRARY.run)(image, il, k, state, sl, rows, rl, outputs, ol);
+    let answer = library_run::<STATIC>()(image, il, k, state, sl, rows, rl, outputs, ol);
     bytes_mut(state, sl).copy_from_slice(&before);
     answer
 }

@@ -1,7 +1,7 @@
 //! Stand-ins that leave wrong bytes, in the buffers or beside them. Their
 //! answers are right.
 
-use crate::parts::bytes_mut;
+use crate::parts::{bytes_mut, library_run};
 use tests::coding::number_of;
 use tests::{Calls, LIBRARY};
 
@@ -99,17 +99,23 @@ unsafe extern "C" fn step_all_marked(
 
 /// Clears the outputs before it refuses a row byte.
 pub const REFUSED_WRITES: Calls = Calls {
-    run: run_refused_writes,
+    run: run_refused_writes::<false>,
+    ..LIBRARY
+};
+
+/// Clears the outputs before it refuses a byte of a static run.
+pub const REFUSED_WRITES_STATIC: Calls = Calls {
+    static_run: run_refused_writes::<true>,
     ..LIBRARY
 };
 
 #[rustfmt::skip]
-unsafe extern "C" fn run_refused_writes(
+unsafe extern "C" fn run_refused_writes<const STATIC: bool>(
     image: *const u8, il: usize, k: usize, state: *mut u8, sl: usize,
     rows: *const u8, rl: usize, outputs: *mut u8, ol: usize,
 ) -> u64 {
-    let answer = (LIBRARY.run)(image, il, k, state, sl, rows, rl, outputs, ol);
-    if number_of(answer) == 13 {
+    let answer = library_run::<STATIC>()(image, il, k, state, sl, rows, rl, outputs, ol);
+    if matches!(number_of(answer), 13 | 18) {
         bytes_mut(outputs, ol).fill(0);
     }
     answer

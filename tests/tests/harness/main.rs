@@ -12,6 +12,8 @@ mod lent_bytes;
 mod order;
 mod parts;
 mod rules;
+mod static_calls;
+mod static_rules;
 mod table;
 mod waking;
 

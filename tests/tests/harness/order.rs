@@ -1,7 +1,7 @@
 //! Stand-ins that try the conditions of refusals in a wrong order, or with a
 //! number of cycles that lost its high bits.
 
-use crate::parts::read;
+use crate::parts::{library_run, read};
 use tests::coding::number_of;
 use tests::{Calls, LIBRARY};
 
@@ -27,17 +27,23 @@ unsafe extern "C" fn step_buffer_first(
 
 /// Takes the low 32 bits of k alone.
 pub const NARROW_K: Calls = Calls {
-    run: run_narrow_k,
+    run: run_narrow_k::<false>,
+    ..LIBRARY
+};
+
+/// Takes the low 32 bits of a static run's k alone.
+pub const NARROW_K_STATIC: Calls = Calls {
+    static_run: run_narrow_k::<true>,
     ..LIBRARY
 };
 
 #[rustfmt::skip]
-unsafe extern "C" fn run_narrow_k(
+unsafe extern "C" fn run_narrow_k<const STATIC: bool>(
     image: *const u8, il: usize, k: usize, state: *mut u8, sl: usize,
     rows: *const u8, rl: usize, outputs: *mut u8, ol: usize,
 ) -> u64 {
     let k = k % (1 << 32);
-    (LIBRARY.run)(image, il, k, state, sl, rows, rl, outputs, ol)
+    library_run::<STATIC>()(image, il, k, state, sl, rows, rl, outputs, ol)
 }
 
 /// Tries the product of k and I, which may wrap around, before k itself.

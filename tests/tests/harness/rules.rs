@@ -14,11 +14,14 @@ pub struct Rules {
     /// The byte that an inverted pin reads, by the kind that it belongs to, its
     /// index, and the byte of its net.
     pub inverted: fn(u8, usize, u8) -> u8,
+    /// Whether a protected OUT with this byte is a flow.
+    pub marked: fn(u8) -> bool,
 }
 
 const RIGHT: Rules = Rules {
     gate: right,
     inverted: |_, _, byte| not_byte(byte),
+    marked: |byte| byte >= 2,
 };
 
 /// All rules, each with one that is wrong.
@@ -71,7 +74,8 @@ fn plain_if(is_plain: bool, byte: u8) -> u8 {
     }
 }
 
-fn right(kind: u8, _: [u16; 3], [a, b, c]: [u8; 3]) -> u8 {
+/// The right byte of a gate or an OUT.
+pub fn right(kind: u8, _: [u16; 3], [a, b, c]: [u8; 3]) -> u8 {
     match kind {
         NOT => not_byte(a),
         AND => and_byte(a, b),

@@ -2,7 +2,7 @@
 //! their reports have to show.
 
 use crate::{altered, answers, cycles, doubled_bits, doubling, figures};
-use crate::{lent_bytes, order, rules, waking};
+use crate::{lent_bytes, order, rules, static_calls, static_rules, waking};
 use tests::{Calls, Failure, Spot};
 
 pub struct StandIn {
@@ -77,7 +77,7 @@ fn image(failure: &Failure) -> bool {
 }
 
 #[rustfmt::skip]
-pub const STAND_INS: [StandIn; 54] = [
+pub const STAND_INS: [StandIn; 77] = [
     stand_in("accepts wrong counts", answers::ACCEPTS_WRONG_COUNTS,
         &["operands", "damaged", "noise", "lists"], answer),
     stand_in("answers with the next net", answers::NEXT_PLACE,
@@ -185,4 +185,49 @@ pub const STAND_INS: [StandIn; 54] = [
         &["exhaustive", "operands", "good", "lists", "doubling"], answer),
     stand_in("writes into the image while it counts", figures::WRITES_THE_IMAGE,
         &["exhaustive", "operands", "good", "damaged", "noise", "pairing"], image),
+    stand_in("fills 4 with 0 alone", static_rules::ONLY_0_FOR_4,
+        &["static_gates", "static_runs", "lists", "filling"], anything),
+    stand_in("fills 6 with 2 alone", static_rules::ONLY_2_FOR_6,
+        &["static_gates", "static_runs", "lists", "filling"], anything),
+    stand_in("marks if all fillings mark", static_rules::ALL_MARK,
+        &["static_gates", "static_runs", "lists", "filling"], anything),
+    stand_in("marks if the first filling marks", static_rules::FIRST_MARKS,
+        &["static_gates", "static_runs", "lists", "filling"], anything),
+    stand_in("composes a MUX of static gates", static_rules::COMPOSED_MUX,
+        &["static_gates", "static_runs", "lists"], anything),
+    stand_in("fills a net once for all pins", static_rules::NETS_FILLED,
+        &["static_gates", "static_runs", "lists"], anything),
+    stand_in("knows no value behind an unknown pin", static_rules::UNKNOWN_BY_ANY_PIN,
+        &["static_gates", "static_runs", "lists"], anything),
+    stand_in("trusts what is unknown", static_rules::UNKNOWN_IS_TRUSTED,
+        &["static_gates", "static_runs", "lists", "filling"], anything),
+    stand_in("inverts the lowest bit of 4 and 6", static_rules::INVERTS_UNKNOWN,
+        &["static_gates", "static_runs", "lists", "filling"], anything),
+    stand_in("takes 4 for marked", static_rules::FLOW_BY_4,
+        &["static_gates", "static_runs", "lists"], answer),
+    stand_in("wakes a register without a start as 4", waking::WAKES_AS_4,
+        &["static_gates", "static_runs", "lists", "filling", "known"], lent_byte),
+    stand_in("powers up statically as for runs", static_calls::POWERS_UP_AS_RUNS,
+        &["static_gates", "static_runs", "lists", "filling", "known"], lent_byte),
+    stand_in("runs statically as it runs", static_calls::RUNS_AS_RUNS,
+        &["static_gates", "static_runs", "lent", "lists", "filling", "known"], answer),
+    stand_in("accepts 5", static_calls::ACCEPTS_5, &["lent", "lists", "known"], answer),
+    stand_in("tries static bytes before 10", static_calls::BYTES_BEFORE_10,
+        &["lent", "lists", "known"], answer),
+    stand_in("tries static bytes before 12", static_calls::BYTES_BEFORE_12,
+        &["lent", "lists", "known"], answer),
+    stand_in("gives 11 and 13 for 18", static_calls::NUMBERS_OF_RUNS,
+        &["lent", "lists", "known"], answer),
+    stand_in("counts a bad static byte within its row", static_calls::PLACE_IN_ITS_ROW,
+        &["lent", "lists", "known"], place),
+    stand_in("refuses static bytes and writes", lent_bytes::REFUSED_WRITES_STATIC,
+        &["lent", "lists", "known"], refused),
+    stand_in("takes 32 bits of a static run's k", order::NARROW_K_STATIC,
+        &["lent", "lists", "known"], answer),
+    stand_in("says clear of every static run", answers::ALWAYS_CLEAR_STATIC,
+        &["static_gates", "static_runs", "lists", "filling", "known"], answer),
+    stand_in("stops static outputs at the first flow", cycles::STOPS_AT_FLOW_STATIC,
+        &["static_gates", "static_runs", "lists", "known"], lent_byte),
+    stand_in("runs statically and keeps the state", cycles::RUN_KEEPS_STATE_STATIC,
+        &["static_gates", "static_runs", "lists", "filling", "known"], lent_byte),
 ];

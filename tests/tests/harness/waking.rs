@@ -15,6 +15,12 @@ pub const WAKES_TRUSTED: Calls = waking_as::<0>();
 /// Powers a register without a start up as an untrusted 1.
 pub const WAKES_AS_1: Calls = waking_as::<3>();
 
+/// Powers a register without a start statically up as an unknown trusted bit.
+pub const WAKES_AS_4: Calls = Calls {
+    static_power_up: power_up_as::<4>,
+    ..LIBRARY
+};
+
 const fn waking_as<const BYTE: u8>() -> Calls {
     Calls {
         power_up: power_up_as::<BYTE>,
@@ -22,6 +28,7 @@ const fn waking_as<const BYTE: u8>() -> Calls {
     }
 }
 
+/// Both power-ups give the same but for registers without a start.
 #[rustfmt::skip]
 unsafe extern "C" fn power_up_as<const BYTE: u8>(
     image: *const u8, il: usize, state: *mut u8, sl: usize,

@@ -11,23 +11,23 @@ use Rattle.lists.proofs.listed.put_bytes.Statement.{statement}
 use Rattle.lists.proofs.listed.put_bytes.Tie as tie
 
 abbrev Inv-loop : tie.InvT-loop
-Inv-loop t width list bytes nets₀ j₀ nets j = (j ≤ length list) × Put width list bytes nets₀ nets j
+Inv-loop width list bytes nets₀ j₀ nets j = (j ≤ length list) × Put width list bytes nets₀ nets j
 
 abbrev μ-loop : tie.MeasureT-loop
-μ-loop t width list bytes nets₀ j₀ nets j = length list - j
+μ-loop width list bytes nets₀ j₀ nets j = length list - j
 
 loop-holds : tie.Need-loop-holds Inv-loop μ-loop
 loop-holds c = (omega arith, put-begins)
 
 -- a turn, and the entry of the function
 abbrev start : tie.At-loop Inv-loop μ-loop → tie.Start Inv-loop μ-loop
-start c = c .before .before .before .before .before
+start c = c .before .before .before .before
 
 cast-put-both : tie.Need-cast-put-both Inv-loop μ-loop
-cast-put-both c = omega (arith, c .shared-slice-known5 .given (c .before .before .before .before .loop .j))
+cast-put-both c = omega (arith, c .shared-slice-known4 .given (c .before .before .before .before .loop .j))
 
 inverse-requires : tie.Need-inverse-requires Inv-loop μ-loop
-inverse-requires c κs = let pre = start (c .before .before .before .before) .pre in (pre .0 .0, pre .0 .1 .codes _)
+inverse-requires c κs = let pre = start (c .before .before .before .before) .pre in pre .0 .codes _
 
 put-both-requires : tie.Need-put-both-requires Inv-loop μ-loop
 put-both-requires c κs =
@@ -44,7 +44,7 @@ loop-again c =
     let at = turn .before in
     let pre = start at .pre in
     let below = turn .loop-test .taken in
-    (omega arith, rw (put .put-both .ensures, put .before .inverse .ensures, add-one (at .loop .j)) (put-goes-on (pre .1 .1) (pre .1 .2) (pre .0 .1) below (at .loop .inv .1)))
+    (omega arith, rw (put .put-both .ensures, put .before .inverse .ensures, add-one (at .loop .j)) (put-goes-on (pre .1 .1) (pre .1 .2) (pre .0) below (at .loop .inv .1)))
 
 returns : tie.Need-returns Inv-loop μ-loop
 returns c =

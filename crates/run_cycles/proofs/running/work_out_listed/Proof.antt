@@ -41,7 +41,7 @@ put-bytes-requires c κs =
     let f = found start in
     let r = ready start in
     (
-      (start .pre .0, start .pre .1 .0 .1 .codes),
+      start .pre .1 .0 .1 .codes,
       (r .size ∙ r .image .inputs ∙ sym (list-size s INPUT (f .ins)), places-fit (few start) (listed-places s refl INPUT (f .ins)), size start),
     )
 
@@ -50,7 +50,7 @@ module _ (c : tie.After-put-bytes) where
   abbrev start₁ : tie.Start
   start₁ = c .before .before .before .before .before .before .before .before .before .before
 
-  size₁ : length (c .put-bytes .last .1 .1 .1 .1 .0) ≡ 40960
+  size₁ : length (c .put-bytes .last .1 .1 .1 .0) ≡ 40960
   size₁ = c .put-bytes .ensures .size ∙ size start₁
 
 put-bytes-requires-2 : tie.Need-put-bytes-requires-2
@@ -61,7 +61,7 @@ put-bytes-requires-2 c κs =
     let f = found start in
     let r = ready start in
     (
-      (start .pre .0, start .pre .1 .0 .1 .state),
+      start .pre .1 .0 .1 .state,
       (r .state .size ∙ r .image .registers ∙ sym (list-size s REG (f .regs)), places-fit (few start) (listed-places s refl REG (f .regs)), size₁ first),
     )
 
@@ -73,10 +73,10 @@ module _ (c : tie.After-put-bytes2) where
   abbrev start₂ : tie.Start
   start₂ = start₁ first
 
-  size₂ : length (c .put-bytes2 .last .1 .1 .1 .1 .0) ≡ 40960
+  size₂ : length (c .put-bytes2 .last .1 .1 .1 .0) ≡ 40960
   size₂ = c .put-bytes2 .ensures .size ∙ size₁ first
 
-  both₂ : Both (start₂ .args .width) (c .put-bytes2 .last .1 .1 .1 .1 .0) (sizesOf (start₂ .args .image .now) .nets)
+  both₂ : Both (start₂ .args .width) (c .put-bytes2 .last .1 .1 .1 .0) (sizesOf (start₂ .args .image .now) .nets)
   both₂ =
       let f = found start₂ in
       put-both (ready start₂ .image) (size start₂) (start₂ .pre .1 .1 .1) (f .ins) (f .regs) (first .put-bytes .ensures) (c .put-bytes2 .ensures)

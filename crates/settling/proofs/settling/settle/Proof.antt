@@ -116,7 +116,7 @@ inverse-requires : tie.Need-inverse-requires
 inverse-requires c κs =
     let gate = c .before in
     let known = gate .before in
-    (begun (read known) .pre .0, rw (gate .code-by .ensures) (rule-code _ _ _ _ _ (code-a known) (code-b known) (code-c known)))
+    rw (gate .code-by .ensures) (rule-code _ _ _ _ _ (code-a known) (code-b known) (code-c known))
 
 put-both-requires : tie.Need-put-both-requires
 put-both-requires c κs =

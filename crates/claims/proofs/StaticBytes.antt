@@ -1,0 +1,105 @@
+-- One static run in bytes alone, from what it covers; and static power-up, register by register.
+use Prim.Native.Nat.{ℕ, _/_, _%_, _≤_, _<_}
+use native.Mathlib.Omega.{arith}
+use mathlib.Core.Path.{_≡_, refl, sym, _∙_}
+use mathlib.Core.List.{List}
+use mathlib.Core.Option.{none}
+use mathlib.Core.Bool.{Bool, true, false}
+use lib.Dec.{eqb, lit≤}
+use lib.ListN.{length, getD}
+use borrow.Author.Tests.{eqb-true, eqb-false, lt-ltb}
+use Rattle.gates.specs.Kinds.{REG}
+use Rattle.gates.specs.Rules.{value, mark, byte}
+use Rattle.unknowns.specs.Covering.{Covers, CoversAll}
+use Rattle.unknowns.proofs.CodesAll.{IsCode, a-byte, unknown, untrusted, by-number}
+use Rattle.unknowns.proofs.Covered.{covers-itself, covers-every, covers-trusted}
+use Rattle.image.specs.Image.{sizesOf, netsOf}
+use Rattle.image.proofs.Pairs.{pairs-places, pairs-getD, pairs-length}
+use Rattle.checking.proofs.Checked.{Checked, check-none}
+use Rattle.cycle.specs.Calls.{start}
+use Rattle.cycle.proofs.Calls.{either-way}
+use Rattle.cycle.proofs.Cycles.{registers-length}
+use Rattle.cycle.proofs.Selections.{registers-selected}
+use Rattle.static_run.specs.StaticCalls.{staticStart, staticStarts, staticPowerUpOf, staticRunRefusal, staticRunOf}
+use Rattle.static_run.proofs.StaticRefused.{static-power-up-none, static-power-up-accepted, static-refused}
+use Rattle.claims.specs.NetBytes.{netOf, Counted}
+use Rattle.claims.specs.InBytes.{clearAfter}
+use Rattle.claims.specs.StaticBytes.{FilledBy, ToldBy, StaticClear, StaticStartsAll}
+use Rattle.claims.proofs.NetBytes.{selected}
+use Rattle.claims.proofs.StaticRuns.{static-sound}
+use Rattle.claims.proofs.Unchanged.{not-refused}
+
+-- FROM FILLING TO COVERING
+filled-covered : {x y : ℕ} → IsCode x → (x ≤ 3 → y ≡ x) → (x ≡ 4 → y ≤ 1) → (x ≡ 6 → (2 ≤ y) × (y ≤ 3)) → Covers x y
+filled-covered (a-byte h) f g k = rw (f h) (covers-itself h)
+filled-covered unknown f g k = covers-trusted (g refl)
+filled-covered untrusted f g k = covers-every (k refl .1)
+
+covered : {codes bytes : List ℕ} → FilledBy codes bytes → CoversAll codes bytes
+covered {codes} {bytes} f =
+    pairs-places codes bytes 0 (f .size)
+    (λ i l. let c = f .codes-are i l in filled-covered (by-number (getD codes i 0) (c .0) (c .1)) (f .known i l) (f .unknown i l) (f .untrusted i l))
+
+-- AND FROM COVERING TO WHAT IS TOLD
+same-bit : (x y : ℕ) → x < 2 → y < 2 → eqb x 1 ≡ eqb y 1 → x ≡ y
+same-bit x y h k e = by (eqb y 1) refl
+  where
+    by : (b : Bool) → eqb y 1 ≡ b → x ≡ y
+    by true t = eqb-true x 1 (e ∙ t) ∙ sym (eqb-true y 1 t)
+    by false t = let p = eqb-false x 1 (e ∙ t) in let q = eqb-false y 1 t in omega (arith, p, q)
+
+value-told : {x y : ℕ} → Covers x y → x ≤ 3 → y % 2 ≡ x % 2
+unfolding value
+value-told {x} {y} c h = same-bit (y % 2) (x % 2) (omega arith) (omega arith) (c .values (lt-ltb x 4 (omega arith)))
+
+mark-told : {x y : ℕ} → Covers x y → x / 2 % 2 ≡ 0 → y / 2 ≡ 0
+unfolding mark
+mark-told {x} {y} c h = by (eqb (y / 2 % 2) 1) refl
+  where
+    by : (b : Bool) → eqb (y / 2 % 2) 1 ≡ b → y / 2 ≡ 0
+    by true t = let z = eqb-true (x / 2 % 2) 1 (c .marks t) in absurd (omega arith)
+    by false t = let z = eqb-false (y / 2 % 2) 1 t in omega (arith, z, c .small)
+
+told : {codes bytes : List ℕ} → CoversAll codes bytes → ToldBy codes bytes
+told h =
+    record {
+      size = pairs-length h;
+      values = λ i l. value-told (pairs-getD i 0 (covers-itself (lit≤ tt)) h);
+      marks = λ i l. mark-told (pairs-getD i 0 (covers-itself (lit≤ tt)) h);
+    }
+
+-- a run that is clear is not refused
+not-turned : (s st : List ℕ) (k : ℕ) (codes b : List ℕ) → staticRunOf s st k codes b .answer ≡ clearAfter k → staticRunRefusal s st k codes b ≡ none
+not-turned s st k codes b h =
+    either-way (staticRunRefusal s st k codes b) (λ e. e) (λ r e. absurd (not-refused {r = r} (sym h ∙ rw (static-refused s st k codes b r e))))
+
+pub static-clear : StaticClear
+static-clear s st st′ k codes rows b b′ p q l h =
+    let sound = static-sound s st st′ k codes rows b b′ (covered p) (covered q) l in
+    let cycles = sound .accepted (not-turned s st k codes b h) in
+    record { answer = cycles .clears h; outputs = told (cycles .outputs); state = told (sound .state) }
+
+-- POWER-UP
+register : {s : List ℕ} (st : List ℕ) → Checked s → length st ≡ sizesOf s .registers
+    → (i : ℕ) → i < sizesOf s .nets → netOf s i .kind ≡ REG → Counted REG s i (staticPowerUpOf s st .state) (staticStart (netOf s i .b))
+unfolding staticStarts
+register {s} st c l i h e =
+    rw (static-power-up-accepted s st (static-power-up-none s st .1 (c, l))) (selected i h (registers-selected (λ x. staticStart (x .b))) e)
+
+-- the code of each start
+start-codes : (staticStart 0 ≡ 0) × (staticStart 1 ≡ 1) × (staticStart 2 ≡ 6)
+unfolding staticStart start byte
+start-codes = (refl, refl, refl)
+
+pub static-starts : StaticStartsAll
+unfolding staticStarts
+static-starts s st h l =
+    let c = check-none s .0 h in
+    let e = static-power-up-accepted s st (static-power-up-none s st .1 (c, l)) in
+    record {
+      done = rw e;
+      size = rw e (registers-length _ (netsOf s) ∙ sym (c .registers));
+      start-0 = λ i m k b. rw (b, start-codes .0) at (register st c l i m k);
+      start-1 = λ i m k b. rw (b, start-codes .1) at (register st c l i m k);
+      none-given = λ i m k b. rw (b, start-codes .2) at (register st c l i m k);
+    }

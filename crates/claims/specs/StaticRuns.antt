@@ -1,0 +1,86 @@
+-- What a static run says of concrete runs (document 02, L4): "A clear static verdict means that each concrete run which fills the unknowns, cycle by cycle, is clear, and known
+-- values are its values."
+use Prim.Native.Nat.{ℕ}
+use mathlib.Core.Path.{_≡_}
+use mathlib.Core.List.{List, [], _∷_, Forall₂}
+use mathlib.Core.Option.{none}
+use lib.ListN.{length}
+use Rattle.unknowns.specs.Covering.{CoversAll}
+use Rattle.image.specs.Image.{sizesOf, netsOf}
+use Rattle.cycle.specs.Cycle.{clear, plain, Cycle, cyclesOf}
+use Rattle.cycle.specs.Calls.{done, powerUpOf, runRefusal, runOf}
+use Rattle.static_run.specs.StaticCalls.{static, staticPowerUpOf, staticRunRefusal, staticRunOf}
+use Rattle.claims.specs.PowerUp.{Wakes}
+
+-- a static cycle c and a concrete one d: every net, output and register byte is covered, and where the static verdict is clear the concrete one is
+pub record CoversCycle (c d : Cycle) : Type 0 where
+  pub nets : CoversAll (c .bytes) (d .bytes)
+  pub verdict : c .verdict ≡ clear → d .verdict ≡ clear
+  pub outputs : CoversAll (c .outputs) (d .outputs)
+  pub state : CoversAll (c .state) (d .state)
+
+-- a static run on the image s from a state st, with the rows `codes` and the lent buffer b; and a concrete one from st′, with `rows` and b′
+module _ (s st st′ : List ℕ) (k : ℕ) (codes rows b b′ : List ℕ) where
+  -- both are accepted: what the static run says of each cycle, of the outputs, and of the answer
+  pub record SoundCycles : Type 0 where
+    pub cycles : Forall₂ CoversCycle (cyclesOf static (netsOf s) (sizesOf s .inputs) k codes st) (cyclesOf plain (netsOf s) (sizesOf s .inputs) k rows st′)
+    pub outputs : CoversAll (staticRunOf s st k codes b .outputs) (runOf s st′ k rows b′ .outputs)
+    pub clears :
+        {n : ℕ} → staticRunOf s st k codes b .answer ≡ done (record { cycle = n; verdict = clear })
+        → runOf s st′ k rows b′ .answer ≡ done (record { cycle = n; verdict = clear })
+
+  -- in any case: both meet the same refusal, or none, and leave states of which the first covers the second
+  pub record SoundRun : Type 0 where
+    pub refusal : staticRunRefusal s st k codes b ≡ runRefusal s st′ k rows b′
+    pub accepted : staticRunRefusal s st k codes b ≡ none → SoundCycles
+    pub state : CoversAll (staticRunOf s st k codes b .state) (runOf s st′ k rows b′ .state)
+
+-- from any states, with any rows, of which the first cover the second, and buffers equally long; proved as `static-sound`
+abbrev pub StaticSound : Type 0
+StaticSound =
+    (s st st′ : List ℕ) (k : ℕ) (codes rows b b′ : List ℕ) → CoversAll st st′ → CoversAll codes rows → length b ≡ length b′
+    → SoundRun s st st′ k codes rows b b′
+
+-- POWER-UP, where the states held a and a′ before: the same refusal, or none; and the static state covers the concrete one, and every state with which the array may wake
+pub record SoundPowerUp (s a a′ : List ℕ) : Type 0 where
+  pub refusal : staticPowerUpOf s a .refusal ≡ powerUpOf s a′ .refusal
+  pub state : powerUpOf s a′ .refusal ≡ none → CoversAll (staticPowerUpOf s a .state) (powerUpOf s a′ .state)
+  pub wakes : powerUpOf s a′ .refusal ≡ none → (st : List ℕ) → Wakes s st → CoversAll (staticPowerUpOf s a .state) st
+
+-- proved as `static-wakes`
+abbrev pub StaticWakes : Type 0
+StaticWakes = (s a a′ : List ℕ) → length a ≡ length a′ → SoundPowerUp s a a′
+
+-- LISTS OF RUNS, each taking the state that the last one left. A run, with its rows and the buffer that it is lent
+pub record Run : Type 0 where
+  pub k : ℕ
+  pub rows : List ℕ
+  pub outputs : List ℕ
+
+-- what may stand at one place of a static and a concrete list
+pub data MatchedRuns : Run → Run → Type 0 where
+  runs :
+      {k : ℕ} {codes rows b b′ : List ℕ} → CoversAll codes rows → length b ≡ length b′
+      → MatchedRuns (record { k = k; rows = codes; outputs = b }) (record { k = k; rows = rows; outputs = b′ })
+
+-- at every place, each list with its own state
+pub data SoundRuns (s : List ℕ) : (st st′ : List ℕ) → List Run → List Run → Type 0 where
+  nil : {st st′ : List ℕ} → SoundRuns s st st′ [] []
+  cons :
+      {st st′ : List ℕ} {k : ℕ} {codes rows b b′ : List ℕ} {rs qs : List Run} → SoundRun s st st′ k codes rows b b′
+      → SoundRuns s (staticRunOf s st k codes b .state) (runOf s st′ k rows b′ .state) rs qs
+      → SoundRuns s st st′ (record { k = k; rows = codes; outputs = b } ∷ rs) (record { k = k; rows = rows; outputs = b′ } ∷ qs)
+
+-- from covered states, and from power-up: against a power-up of the array, and against every state with which it may wake
+pub record RunsSound (s : List ℕ) (rs qs : List Run) : Type 0 where
+  pub covered : (st st′ : List ℕ) → CoversAll st st′ → SoundRuns s st st′ rs qs
+  pub from-power-up :
+      (a a′ : List ℕ) → length a ≡ length a′ → powerUpOf s a′ .refusal ≡ none
+      → SoundRuns s (staticPowerUpOf s a .state) (powerUpOf s a′ .state) rs qs
+  pub from-wakes :
+      (a st : List ℕ) → powerUpOf s a .refusal ≡ none → Wakes s st
+      → SoundRuns s (staticPowerUpOf s a .state) st rs qs
+
+-- proved as `static-runs`
+abbrev pub StaticRuns : Type 0
+StaticRuns = (s : List ℕ) (rs qs : List Run) → Forall₂ MatchedRuns rs qs → RunsSound s rs qs
