@@ -3,14 +3,15 @@ use Prim.Native.Nat.{ℕ, suc, _≤_}
 use native.Mathlib.Omega.{arith}
 use mathlib.Core.Logic.{_↔_}
 use mathlib.Core.Path.{_≡_, refl, sym, _∙_}
-use mathlib.Core.List.{List, [], _∷_, Forall₂·nil, Forall₂·cons}
+use mathlib.Core.List.{List, [], _∷_, Forall₂, Forall₂·nil, Forall₂·cons}
 use mathlib.Core.Option.{none}
 use mathlib.Core.Bool.{Bool, true, false, _&&_, _||_, not}
 use lib.Dec.{eqb, leb, lit≤}
+use lib.ListN.{getD}
 use borrow.Author.Tests.{leb-true, eqb-true, not-true, not-false, le-leb, eq-eqb}
 use Rattle.image.specs.declared.image.Net.{Net}
 use Rattle.image.specs.Image.{sizesOf, netsOf}
-use Rattle.image.proofs.Pairs.{pairs-getD}
+use Rattle.image.proofs.Pairs.{pairs-getD, pairs-places}
 use Rattle.image.proofs.Nets.{length-nets}
 use Rattle.refusals.proofs.Refusals.{then-none, refuse-none, neither, not-above, not-from, not-other, not-same, accepted, Codes}
 use Rattle.net_checking.specs.NetCheck.{badPin, badValue, badUnlisted, netRefusal}
@@ -19,6 +20,8 @@ use Rattle.checking.proofs.Checked.{Checked, check-none}
 use Rattle.cycle.proofs.Calls.{IsState, Ready, power-up-none, step-none, run-none}
 use Rattle.figures.proofs.Refusing.{size-none, size-given}
 use Rattle.doubling.proofs.Checks.{double-none}
+use Rattle.unknowns.specs.Filling.{noCode}
+use Rattle.static_run.proofs.StaticRefused.{AnyCode, static-power-up-none, static-none}
 use Rattle.claims.specs.Accepted as claim
 use Rattle.claims.proofs.InTurn.{InTurn, none-drawn, none-given}
 
@@ -126,6 +129,16 @@ pub together : (xs : List ℕ) → claim.NoneAbove3 xs → Codes xs
 together [] h = Forall₂·nil
 together (x ∷ xs) h = Forall₂·cons (h 0 (omega arith)) (together xs (λ i l. h (suc i) (omega arith)))
 
+-- no byte is 5 or above 6
+pub code : (x : ℕ) → (noCode x ≡ false) ↔ ((x ≡ 5 → ⊥) × (x ≤ 6))
+code x = (λ h. simp (neither, not-same, not-above) at h, λ h. simp (neither, not-same, not-above) h)
+
+pub codes : (xs : List ℕ) → Forall₂ AnyCode xs xs ↔ claim.OnlyCodes xs
+codes xs = (
+  λ h i l. code (getD xs i 0) .0 (not-true _ (pairs-getD {R = AnyCode} i 0 refl h)),
+  λ h. pairs-places xs xs 0 refl (λ i l. rw (code (getD xs i 0) .1 (h i l))),
+)
+
 -- what a call takes, both ways
 state : {s st : List ℕ} → IsState s st → claim.AcceptedState s st
 state h = record { size = h .size; codes = each (h .codes) }
@@ -157,6 +170,32 @@ when-accepted =
       run = λ s st k rows outputs. (
         λ h. let t = run-none s st k rows outputs .0 h in (image (t .0), t .1, state (t .0 .state), rows-of (t .0), t .2),
         λ t. run-none s st k rows outputs .1 (ready (t .0) (t .2) (t .3), t .1, t .4),
+      );
+      static-power-up = λ s st. (
+        λ h. let t = static-power-up-none s st .0 h in (checked s .0 (t .0), t .1),
+        λ t. static-power-up-none s st .1 (checked s .1 (t .0), t .1),
+      );
+      static-run = λ s st k rows outputs. (
+        λ h.
+            let t = static-none s st k rows outputs .0 h in
+            let r = t .0 in (
+              checked s .0 (r .image),
+              t .1,
+              record { size = r .state .size; codes = codes st .0 (r .state .codes) },
+              record { size = r .size; codes = codes rows .0 (r .codes) },
+              t .2,
+            ),
+        λ t.
+            static-none s st k rows outputs .1 (
+              record {
+                image = checked s .1 (t .0);
+                state = record { size = t .2 .size; codes = codes st .1 (t .2 .codes) };
+                size = t .3 .size;
+                codes = codes rows .1 (t .3 .codes);
+              },
+              t .1,
+              t .4,
+            ),
       );
       doubled-size = λ s. (
         λ h. let t = size-none s .0 (sym (size-given s) ∙ h) in (checked s .0 (t .0), t .1),

@@ -9,7 +9,7 @@ use borrow.Author.Tests.{eqb-false}
 use lib.ListN.{length, getD, take, drop, List·getD-append}
 use lib.Seq.{getD-append-add}
 use Rattle.gates.specs.Kinds.{OUT}
-use Rattle.gates.specs.Rules.{mark}
+use Rattle.gates.specs.Rules.{mark, gateByte}
 use Rattle.gates.specs.Relations.{AgreeByte, same, low-high, high-low}
 use Rattle.image.specs.Image.{sizesOf, netsOf}
 use Rattle.image.proofs.Pairs.{pairs-getD}
@@ -65,7 +65,7 @@ module _ (s : List ℕ) (i : ℕ) (l : i < sizesOf s .nets) (out : netOf s i .ki
       let o = cycleOf plain (netsOf s) row st in
       let b = net-bytes s row st (check-none s .1 (r .image)) (r .size) (r .state .size) .output-byte i l out in
       rw (List·getD-append (o .outputs) rest 0 (placeOf OUT s i) (b .below), b .byte)
-      (unmarked s (o .bytes) (verdicts (netsOf s) row st) e i l out protected)
+      (unmarked s (o .bytes) (verdicts gateByte (netsOf s) row st) e i l out protected)
 
   later-place : (xs rest : List ℕ) (c : ℕ) → length xs ≡ sizesOf s .outputs → getD (xs ++ rest) (at (suc c)) 0 ≡ getD rest (at c) 0
   later-place xs rest c h =

@@ -25,6 +25,10 @@ use Rattle.claims.proofs.TwoSteps
 use Rattle.claims.proofs.ClearRun
 use Rattle.claims.proofs.UnknownStart
 use Rattle.claims.proofs.DoubledRun
+use Rattle.unknowns.proofs.Exact
+use Rattle.claims.proofs.StaticRuns
+use Rattle.claims.proofs.StaticBytes
+use Rattle.claims.proofs.StaticPlain
 use Rattle.claims.proofs.Upright
 
 pub promised : Promised
@@ -34,6 +38,7 @@ promised =
       unknown-start = UnknownStart.unknown-start;
       steps-agree = TwoSteps.steps-agree;
       doubled-shows = DoubledRun.doubled-shows;
+      static-clear = StaticBytes.static-clear;
       terms = Terms.terms;
       image-read = Reading.image-read;
       when-accepted = Accepted.when-accepted;
@@ -68,5 +73,11 @@ promised =
       bound-reached = Bound.bound-reached;
       demand3 = TwoRun.demand3;
       relations-mean = Meaning.relations-mean;
+      static-sound = StaticRuns.static-sound;
+      static-wakes = StaticRuns.static-wakes;
+      static-runs = StaticRuns.static-runs;
+      static-starts = StaticBytes.static-starts;
+      static-plain = StaticPlain.static-plain;
+      static-exact = Exact.static-exact;
       upright = Upright.upright;
     }

@@ -1,14 +1,14 @@
 -- Which refusal each call gives: every line of a chain both ways, then the chains, then the calls.
-use Prim.Native.Nat.{ℕ, _+_, _*_, _≤_}
+use Prim.Native.Nat.{ℕ, _+_, _*_, _≤_, _<_}
 use native.Mathlib.Omega.{arith}
-use mathlib.Core.Logic.{_↔_}
+use mathlib.Core.Logic.{_↔_, _⊎_, inl, inr, ⊎-elim}
 use mathlib.Core.Path.{_≡_, refl, ap, sym, _∙_}
 use mathlib.Core.List.{List}
 use mathlib.Core.Option.{Option, none, some}
 use mathlib.Core.Bool.{Bool, true, false, _||_, not}
 use lib.Dec.{eqb, ltb}
 use lib.ListN.{length, getD}
-use borrow.Author.Tests.{ltb-true, eqb-true, lt-ltb, le-ltb, eq-eqb, ne-eqb}
+use borrow.Author.Tests.{ltb-true, ltb-false, eqb-true, lt-ltb, le-ltb, eq-eqb, ne-eqb}
 use Rattle.image.specs.declared.image.Net.{Net}
 use Rattle.image.specs.Image.{sizesOf, net, netsOf}
 use Rattle.image.proofs.Nets.{length-nets}
@@ -24,8 +24,11 @@ use Rattle.figures.specs.Figures.{sizeRefusal, doubledSizeOf}
 use Rattle.figures.proofs.Refusing.{size-accepted, size-refused}
 use Rattle.doubling.specs.Doubling.{doubleRefusal, doubleOf}
 use Rattle.doubling.proofs.Checks.{double-accepted, double-refused}
-use Rattle.claims.specs.Accepted.{Sized, NoneAbove3, AcceptedImage, AcceptedState}
-use Rattle.claims.specs.Refused.{AnyCall, check, power-up, step, run, doubled-size, double, Gives, BadNet, kind, pin, value, unlisted, BadImage, short, no-nets, many-nets, inexact, bad-net, miscounted, FirstAbove3, BadLent, state-size, state-byte, row-size, row-byte, buffer-size, Refused, bad-image, bad-state, bad-step, many-cycles, bad-run, size-large, doubled-large, doubled-length, Refusals}
+use Rattle.unknowns.specs.Filling.{noCode}
+use Rattle.static_run.specs.StaticCalls.{staticBytes, staticPowerUpRefusal, staticPowerUpOf, staticRunRefusal, staticRunOf}
+use Rattle.static_run.proofs.StaticRefused.{code-none, static-power-up-accepted, static-power-up-refused, static-accepted, static-refused}
+use Rattle.claims.specs.Accepted.{Sized, NoneAbove3, OnlyCodes, AcceptedImage, AcceptedState, AcceptedStaticState}
+use Rattle.claims.specs.Refused.{AnyCall, check, power-up, step, run, static-power-up, static-run, doubled-size, double, Gives, BadNet, kind, pin, value, unlisted, BadImage, short, no-nets, many-nets, inexact, bad-net, miscounted, FirstAbove3, BadLent, state-size, state-byte, row-size, row-byte, buffer-size, FirstNoCode, BadStatic, static-state-size, static-state-byte, static-row-size, static-row-byte, static-buffer-size, Refused, bad-image, bad-state, bad-step, many-cycles, bad-run, bad-static-state, many-static-cycles, bad-static-run, size-large, doubled-large, doubled-length, Refusals}
 use Rattle.claims.proofs.InTurn.{InTurn, given-first, first-given}
 use Rattle.claims.proofs.Accepted as accept
 use Rattle.claims.proofs.Unchanged.{not-refused, not-some}
@@ -52,19 +55,55 @@ length-tells : {P : ℕ → ℕ → Type 0} (number n : ℕ) (xs : List ℕ) →
 unfolding badLength
 length-tells number n xs h = line (not (eqb (length xs) n)) number 0 (λ e. h (λ l. clash e (not-other _ _ .1 l)))
 
-bytes-in-turn : (number : ℕ) → InTurn (λ i x. refuse (ltb 3 x) number i) (badByte (ltb 3) number)
-unfolding badByte
-bytes-in-turn number = record { at-end = λ i. refl; next = λ i x xs. refl }
+-- bytes that are tried one after the other, by any test
+module _ (bad : ℕ → Bool) where
+  bytes-in-turn : (number : ℕ) → InTurn (λ i x. refuse (bad x) number i) (badByte bad number)
+  unfolding badByte
+  bytes-in-turn number = record { at-end = λ i. refl; next = λ i x xs. refl }
 
-bytes-tell : {P : ℕ → ℕ → Type 0} (number : ℕ) (xs : List ℕ) → ((i : ℕ) → FirstAbove3 xs i → P number i) → Tells (badByte (ltb 3) number 0 xs) P
-bytes-tell {P} number xs h =
-    record {
-      given = λ e.
-          let w = first-given 0 (bytes-in-turn number) xs e in
-          line {P = P} (ltb 3 (getD xs (w .0) 0)) number (w .0)
-          (λ t. h (w .0) (record { below = w .1 .below; above = ltb-true _ _ t; first = λ j l. simp (refuse-none, not-above) at (w .1 .before j l) }))
-          .given (w .1 .here);
-    }
+  -- byte i of xs is the first bad one
+  record FirstBad (xs : List ℕ) (i : ℕ) : Type 0 where
+    below : i < length xs
+    here : bad (getD xs i 0) ≡ true
+    first : (j : ℕ) → j < i → bad (getD xs j 0) ≡ false
+
+  bytes-tell : {P : ℕ → ℕ → Type 0} (number : ℕ) (xs : List ℕ) → ((i : ℕ) → FirstBad xs i → P number i) → Tells (badByte bad number 0 xs) P
+  bytes-tell {P} number xs h =
+      record {
+        given = λ e.
+            let w = first-given 0 (bytes-in-turn number) xs e in
+            line {P = P} (bad (getD xs (w .0) 0)) number (w .0)
+            (λ t. h (w .0) (record { below = w .1 .below; here = t; first = λ j l. refuse-none _ _ _ .0 (w .1 .before j l) }))
+            .given (w .1 .here);
+      }
+
+  byte-drawn : (number : ℕ) (xs : List ℕ) {i : ℕ} → FirstBad xs i → badByte bad number 0 xs ≡ some (refusal number i)
+  byte-drawn number xs {i} w =
+      given-first 0 (bytes-in-turn number) xs i
+      (record { below = w .below; before = λ k l. rw (w .first k l); here = rw (w .here) })
+
+-- a byte above 3, and a byte that is no code
+above-3 : {xs : List ℕ} {i : ℕ} → FirstBad (ltb 3) xs i → FirstAbove3 xs i
+above-3 w = record { below = w .below; above = ltb-true _ _ (w .here); first = λ j l. ltb-false _ _ (w .first j l) }
+
+bad-3 : {xs : List ℕ} {i : ℕ} → FirstAbove3 xs i → FirstBad (ltb 3) xs i
+bad-3 w = record { below = w .below; here = lt-ltb 3 _ (w .above); first = λ j l. le-ltb 3 _ (w .first j l) }
+
+told-no-code : (x : ℕ) → noCode x ≡ true → (x ≡ 5) ⊎ (6 < x)
+told-no-code x h = by (eqb x 5) refl h
+  where
+    by : (b : Bool) → eqb x 5 ≡ b → (b || ltb 6 x) ≡ true → (x ≡ 5) ⊎ (6 < x)
+    by true e h = inl (eqb-true x 5 e)
+    by false e h = inr (ltb-true 6 x h)
+
+no-code-told : (x : ℕ) → (x ≡ 5) ⊎ (6 < x) → noCode x ≡ true
+no-code-told x h = ⊎-elim (λ e. rw (eq-eqb x 5 e)) (λ l. rw (ne-eqb x 5 (λ e. omega arith), lt-ltb 6 x l)) h
+
+no-code : {xs : List ℕ} {i : ℕ} → FirstBad noCode xs i → FirstNoCode xs i
+no-code w = record { below = w .below; no-code = told-no-code _ (w .here); first = λ j l. accept.code _ .0 (w .first j l) }
+
+bad-code : {xs : List ℕ} {i : ℕ} → FirstNoCode xs i → FirstBad noCode xs i
+bad-code w = record { below = w .below; here = no-code-told _ (w .no-code); first = λ j l. accept.code _ .1 (w .first j l) }
 
 net-tells : (n i : ℕ) (x : Net) → Tells (netRefusal n i x) (λ number place. BadNet n i x number × (place ≡ i))
 unfolding netRefusal
@@ -111,25 +150,35 @@ lent-tells : {s : List ℕ} {rowBytes filled : ℕ} (st rows buffer : List ℕ)
 lent-tells {s} {rowBytes} {filled} st rows buffer =
     one-then (length-tells 10 (stateLength (sizesOf s)) st state-size)
     (λ a. let l = length-none _ _ st .0 a in
-    one-then (bytes-tell 11 st (λ i. state-byte l))
+    one-then (bytes-tell (ltb 3) 11 st (λ i w. state-byte l (above-3 w)))
     (λ b. let q : AcceptedState s st = record { size = l; codes = accept.each (byte-none _ _ st .0 b) } in
     one-then (length-tells 12 rowBytes rows (row-size q))
     (λ c. let m = length-none _ _ rows .0 c in
-    one-then (bytes-tell 13 rows (λ i. row-byte q m))
+    one-then (bytes-tell (ltb 3) 13 rows (λ i w. row-byte q m (above-3 w)))
     (λ d. length-tells 14 filled buffer (buffer-size q (record { size = m; codes = accept.each (byte-none _ _ rows .0 d) }))))))
+
+static-tells : {s : List ℕ} {rowBytes filled : ℕ} (st rows buffer : List ℕ)
+    → Tells (lentRefusal staticBytes (sizesOf s .registers) rowBytes filled st rows buffer) (BadStatic s rowBytes filled st rows buffer)
+static-tells {s} {rowBytes} {filled} st rows buffer =
+    one-then (length-tells 10 (sizesOf s .registers) st static-state-size)
+    (λ a. let l = length-none _ _ st .0 a in
+    one-then (bytes-tell noCode 18 st (λ i w. static-state-byte l (no-code w)))
+    (λ b. let q : AcceptedStaticState s st = record { size = l; codes = accept.codes st .0 (code-none 18 0 st .0 b) } in
+    one-then (length-tells 12 rowBytes rows (static-row-size q))
+    (λ c. let m = length-none _ _ rows .0 c in
+    one-then (bytes-tell noCode 18 rows (λ i w. static-row-byte q m (no-code w)))
+    (λ d. length-tells 14 filled buffer (static-buffer-size q (record { size = m; codes = accept.codes rows .0 (code-none 18 0 rows .0 d) }))))))
 
 -- FROM THE TABLE TO ITS CHAIN
 length-drawn : (number n : ℕ) (xs : List ℕ) → (length xs ≡ n → ⊥) → badLength number n xs ≡ some (refusal number 0)
 unfolding badLength
 length-drawn number n xs h = rw (ne-eqb (length xs) n h)
 
-byte-drawn : (number : ℕ) (xs : List ℕ) {i : ℕ} → FirstAbove3 xs i → badByte (ltb 3) number 0 xs ≡ some (refusal number i)
-byte-drawn number xs {i} w =
-    given-first 0 (bytes-in-turn number) xs i
-    (record { below = w .below; before = λ k l. rw (le-ltb 3 (getD xs k 0) (w .first k l)); here = rw (lt-ltb 3 (getD xs i 0) (w .above)) })
-
 no-byte : (number : ℕ) (xs : List ℕ) → NoneAbove3 xs → badByte (ltb 3) number 0 xs ≡ none
 no-byte number xs h = byte-none number 0 xs .1 (accept.together xs h)
+
+no-bad-code : (number : ℕ) (xs : List ℕ) → OnlyCodes xs → badByte noCode number 0 xs ≡ none
+no-bad-code number xs h = code-none number 0 xs .1 (accept.codes xs .1 h)
 
 -- what is not false is true
 so : {b : Bool} {A : Type 0} → (b ≡ false) ↔ A → (A → ⊥) → b ≡ true
@@ -170,15 +219,31 @@ image-drawn {s} (miscounted z nets h) = past-sizes z ∙ rw (accept.nets s .1 ne
 lent-drawn : {s : List ℕ} {rowBytes filled : ℕ} {st rows buffer : List ℕ} {number place : ℕ} → BadLent s rowBytes filled st rows buffer number place
     → lentRefusal plainBytes (stateLength (sizesOf s)) rowBytes filled st rows buffer ≡ some (refusal number place)
 lent-drawn {st = st} (state-size h) = rw (length-drawn 10 _ st h)
-lent-drawn {st = st} (state-byte l w) = rw (length-none 10 _ st .1 l, byte-drawn 11 st w)
+lent-drawn {st = st} (state-byte l w) = rw (length-none 10 _ st .1 l, byte-drawn (ltb 3) 11 st (bad-3 w))
 lent-drawn {st = st} {rows} (row-size q h) = rw (length-none 10 _ st .1 (q .size), no-byte 11 st (q .codes), length-drawn 12 _ rows h)
-lent-drawn {st = st} {rows} (row-byte q l w) = rw (length-none 10 _ st .1 (q .size), no-byte 11 st (q .codes), length-none 12 _ rows .1 l, byte-drawn 13 rows w)
+lent-drawn {st = st} {rows} (row-byte q l w) = rw (length-none 10 _ st .1 (q .size), no-byte 11 st (q .codes), length-none 12 _ rows .1 l, byte-drawn (ltb 3) 13 rows (bad-3 w))
 lent-drawn {st = st} {rows} {buffer} (buffer-size q r h) =
     rw (
       length-none 10 _ st .1 (q .size),
       no-byte 11 st (q .codes),
       length-none 12 _ rows .1 (r .size),
       no-byte 13 rows (r .codes),
+      length-drawn 14 _ buffer h,
+    )
+
+static-drawn : {s : List ℕ} {rowBytes filled : ℕ} {st rows buffer : List ℕ} {number place : ℕ} → BadStatic s rowBytes filled st rows buffer number place
+    → lentRefusal staticBytes (sizesOf s .registers) rowBytes filled st rows buffer ≡ some (refusal number place)
+static-drawn {st = st} (static-state-size h) = rw (length-drawn 10 _ st h)
+static-drawn {st = st} (static-state-byte l w) = rw (length-none 10 _ st .1 l, byte-drawn noCode 18 st (bad-code w))
+static-drawn {st = st} {rows} (static-row-size q h) = rw (length-none 10 _ st .1 (q .size), no-bad-code 18 st (q .codes), length-drawn 12 _ rows h)
+static-drawn {st = st} {rows} (static-row-byte q l w) =
+    rw (length-none 10 _ st .1 (q .size), no-bad-code 18 st (q .codes), length-none 12 _ rows .1 l, byte-drawn noCode 18 rows (bad-code w))
+static-drawn {st = st} {rows} {buffer} (static-buffer-size q r h) =
+    rw (
+      length-none 10 _ st .1 (q .size),
+      no-bad-code 18 st (q .codes),
+      length-none 12 _ rows .1 (r .size),
+      no-bad-code 18 rows (r .codes),
       length-drawn 14 _ buffer h,
     )
 
@@ -189,6 +254,9 @@ behind s (power-up st) = badLength 10 (stateLength (sizesOf s)) st
 behind s (step st row nets) = lentRefusal plainBytes (stateLength (sizesOf s)) (sizesOf s .inputs) (sizesOf s .nets) st row nets
 behind s (run st k rows outputs) =
     refuse (ltb 4096 k) 9 0 then lentRefusal plainBytes (stateLength (sizesOf s)) (k * sizesOf s .inputs) (k * sizesOf s .outputs) st rows outputs
+behind s (static-power-up st) = badLength 10 (sizesOf s .registers) st
+behind s (static-run st k rows outputs) =
+    refuse (ltb 4096 k) 9 0 then lentRefusal staticBytes (sizesOf s .registers) (k * sizesOf s .inputs) (k * sizesOf s .outputs) st rows outputs
 behind s doubled-size = refuse (ltb 8192 (doubledSize (netsOf s))) 15 0
 behind s (double buf) = refuse (ltb 8192 (doubledSize (netsOf s))) 15 0 then badLength 16 (8 + 7 * doubledSize (netsOf s)) buf
 
@@ -199,6 +267,10 @@ behind-tells s (step st row nets) a = record { given = λ e. bad-step a (lent-te
 behind-tells s (run st k rows outputs) a =
     one-then (line (ltb 4096 k) 9 0 (λ e. many-cycles a (ltb-true _ _ e)))
     (λ b. record { given = λ e. bad-run a (simp accepted at b) (lent-tells st rows outputs .given e) })
+behind-tells s (static-power-up st) a = length-tells 10 (sizesOf s .registers) st (bad-static-state a)
+behind-tells s (static-run st k rows outputs) a =
+    one-then (line (ltb 4096 k) 9 0 (λ e. many-static-cycles a (ltb-true _ _ e)))
+    (λ b. record { given = λ e. bad-static-run a (simp accepted at b) (static-tells st rows outputs .given e) })
 behind-tells s doubled-size a = line (ltb 8192 (doubledSize (netsOf s))) 15 0 (λ e. size-large a (ltb-true _ _ e))
 behind-tells s (double buf) a =
     one-then (line (ltb 8192 (doubledSize (netsOf s))) 15 0 (λ e. doubled-large a (ltb-true _ _ e)))
@@ -213,6 +285,9 @@ drawn {s} (bad-state {st} a h) = rw (accept.check s .1 a, length-drawn 10 _ st h
 drawn {s} (bad-step a b) = rw (accept.check s .1 a) (lent-drawn b)
 drawn {s} (many-cycles {k = k} a l) = rw (accept.check s .1 a, lt-ltb 4096 k l)
 drawn {s} (bad-run {k = k} a l b) = rw (accept.check s .1 a, le-ltb 4096 k l) (lent-drawn b)
+drawn {s} (bad-static-state {st} a h) = rw (accept.check s .1 a, length-drawn 10 _ st h)
+drawn {s} (many-static-cycles {k = k} a l) = rw (accept.check s .1 a, lt-ltb 4096 k l)
+drawn {s} (bad-static-run {k = k} a l b) = rw (accept.check s .1 a, le-ltb 4096 k l) (static-drawn b)
 drawn {s} (size-large a l) = rw (accept.check s .1 a, lt-ltb 8192 (doubledSize (netsOf s)) l)
 drawn {s} (doubled-large a l) = rw (accept.check s .1 a, lt-ltb 8192 (doubledSize (netsOf s)) l)
 drawn {s} (doubled-length {buf} a l h) = rw (accept.check s .1 a, le-ltb 8192 (doubledSize (netsOf s)) l, length-drawn 16 _ buf h)
@@ -225,7 +300,7 @@ by-chain none a give n s i = (λ e. absurd (n refl e), λ h. absurd (not-some h)
 by-chain (some q) a give n s i = (λ e. ap some (i q (sym (s q refl) ∙ e)), λ h. s q refl ∙ ap give (same h))
 
 gives : (s : List ℕ) (c : AnyCall) (r : Refusal) → Gives s c r ↔ (checkRefusal s then behind s c ≡ some r)
-unfolding powerUpRefusal stepRefusal asStep runRefusal asRun sizeRefusal doubleRefusal
+unfolding powerUpRefusal stepRefusal asStep runRefusal asRun staticPowerUpRefusal staticRunRefusal sizeRefusal doubleRefusal
 gives s check r = one (checkRefusal s)
   where
     one : (o : Option Refusal) → (o ≡ some r) ↔ (o then none ≡ some r)
@@ -240,6 +315,12 @@ gives s (step st row nets) r =
 gives s (run st k rows outputs) r =
     by-chain (runRefusal s st k rows outputs) (runOf s st k rows outputs .answer) refused
     (λ e h. not-refused (rw (run-accepted s st k rows outputs e) at h)) (λ q e. rw (run-refused s st k rows outputs q e)) (λ q h. cc)
+gives s (static-power-up st) r =
+    by-chain (staticPowerUpRefusal s st) (staticPowerUpOf s st .refusal) some
+    (λ e h. not-some (rw (static-power-up-accepted s st e) at h)) (λ q e. rw (static-power-up-refused s st q e)) (λ q. same)
+gives s (static-run st k rows outputs) r =
+    by-chain (staticRunRefusal s st k rows outputs) (staticRunOf s st k rows outputs .answer) refused
+    (λ e h. not-refused (rw (static-accepted s st k rows outputs e) at h)) (λ q e. rw (static-refused s st k rows outputs q e)) (λ q h. cc)
 gives s doubled-size r =
     by-chain (sizeRefusal s) (doubledSizeOf s .refusal) some
     (λ e h. not-some (rw (size-accepted s e) at h)) (λ q e. rw (size-refused s q e)) (λ q. same)

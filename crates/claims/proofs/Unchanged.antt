@@ -8,6 +8,8 @@ use Rattle.cycle.specs.Calls.{done, refused, powerUpRefusal, asStep, stepRefusa
 use Rattle.cycle.proofs.Calls.{either-way, power-up-accepted, power-up-refused, step-accepted, step-refused, run-accepted, run-refused}
 use Rattle.doubling.specs.Doubling.{doubleRefusal}
 use Rattle.doubling.proofs.Checks.{double-accepted, double-refused}
+use Rattle.static_run.specs.StaticCalls.{staticPowerUpRefusal, staticRunRefusal}
+use Rattle.static_run.proofs.StaticRefused.{static-power-up-accepted, static-power-up-refused, static-accepted, static-refused}
 use Rattle.claims.specs.Unchanged.{Unchanged}
 
 -- what is done is not refused
@@ -31,6 +33,14 @@ unchanged =
           either-way (runRefusal s st k rows outputs)
           (λ e. absurd (not-refused (rw (run-accepted s st k rows outputs e) at h)))
           (λ q e. rw (run-refused s st k rows outputs q e) (refl, refl));
+      static-power-up = λ s st r h.
+          either-way (staticPowerUpRefusal s st)
+          (λ e. absurd (not-some (rw (static-power-up-accepted s st e) at h)))
+          (λ q e. rw (static-power-up-refused s st q e));
+      static-run = λ s st k rows outputs r h.
+          either-way (staticRunRefusal s st k rows outputs)
+          (λ e. absurd (not-refused (rw (static-accepted s st k rows outputs e) at h)))
+          (λ q e. rw (static-refused s st k rows outputs q e) (refl, refl));
       double = λ s buf r h.
           either-way (doubleRefusal s buf) (λ e. absurd (not-some (rw (double-accepted s buf e) at h))) (λ q e. rw (double-refused s buf q e));
     }

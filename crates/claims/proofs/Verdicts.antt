@@ -91,7 +91,7 @@ judged (lowest-from j {n} e g f) = let h : n ≡ j = omega arith in rw h (lowest
 
 pub verdicts : Verdicts
 unfolding cycleOf
-verdicts xs row state = judged (judged-from 0 xs _)
+verdicts rule xs row state = judged (judged-from 0 xs _)
 
 -- THE FIRST FLOW, among verdicts of which the first is that of cycle i: c counts from there
 data FirstFrom (i : ℕ) (vs : List Verdict) : FirstFlow → Type 0 where

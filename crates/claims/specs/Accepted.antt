@@ -1,4 +1,4 @@
--- When a call is accepted: exactly if its image is as document 01's "The image" asks, and K, the state, the rows and the buffer have the lengths and bytes that 9 to 16 ask for.
+-- When a call is accepted: exactly if its image is as document 01's "The image" asks, and K, the state, the rows and the buffer have the lengths and bytes that 9 to 16, and 18, ask for.
 -- Which refusal is given otherwise is Refused. The kinds are 0 CONST, 1 INPUT, 2 REG, 3 NOT, 4 AND, 5 OR, 6 XOR, 7 MUX, 8 OUT.
 use Prim.Native.Nat.{ℕ, _+_, _*_, _≤_, _<_}
 use mathlib.Core.Logic.{_↔_}
@@ -14,6 +14,7 @@ use Rattle.cycle.specs.Calls.{stateLength, powerUpRefusal, stepRefusal, runRefu
 use Rattle.doubled.specs.Doubled.{doubledSize}
 use Rattle.figures.specs.Figures.{doubledSizeOf}
 use Rattle.doubling.specs.Doubling.{doubleRefusal}
+use Rattle.static_run.specs.StaticCalls.{staticPowerUpRefusal, staticRunRefusal}
 use Rattle.claims.specs.Reading.{netOf}
 
 -- 1 to 3 do not apply
@@ -81,6 +82,20 @@ pub record AcceptedRows (n : ℕ) (rows : List ℕ) : Type 0 where
   pub size : length rows ≡ n
   pub codes : NoneAbove3 rows
 
+-- no byte is 5 or above 6
+abbrev pub OnlyCodes : List ℕ → Type 0
+OnlyCodes xs = (i : ℕ) → i < length xs → (getD xs i 0 ≡ 5 → ⊥) × (getD xs i 0 ≤ 6)
+
+-- of a static run: neither 10 nor 18 applies to the state
+pub record AcceptedStaticState (s st : List ℕ) : Type 0 where
+  pub size : length st ≡ sizesOf s .registers
+  pub codes : OnlyCodes st
+
+-- and neither 12 nor 18 to the rows, with n row bytes wanted
+pub record AcceptedStaticRows (n : ℕ) (rows : List ℕ) : Type 0 where
+  pub size : length rows ≡ n
+  pub codes : OnlyCodes rows
+
 -- proved as `when-accepted`
 pub record Accepted : Type 0 where
   pub check : (s : List ℕ) → (checkRefusal s ≡ none) ↔ AcceptedImage s
@@ -90,6 +105,10 @@ pub record Accepted : Type 0 where
   pub run : (s st : List ℕ) (k : ℕ) (rows outputs : List ℕ)
       → (runRefusal s st k rows outputs ≡ none)
       ↔ (AcceptedImage s × (k ≤ 4096) × AcceptedState s st × AcceptedRows (k * sizesOf s .inputs) rows × (length outputs ≡ k * sizesOf s .outputs))
+  pub static-power-up : (s st : List ℕ) → (staticPowerUpRefusal s st ≡ none) ↔ (AcceptedImage s × (length st ≡ sizesOf s .registers))
+  pub static-run : (s st : List ℕ) (k : ℕ) (rows outputs : List ℕ)
+      → (staticRunRefusal s st k rows outputs ≡ none)
+      ↔ (AcceptedImage s × (k ≤ 4096) × AcceptedStaticState s st × AcceptedStaticRows (k * sizesOf s .inputs) rows × (length outputs ≡ k * sizesOf s .outputs))
   pub doubled-size : (s : List ℕ) → (doubledSizeOf s .refusal ≡ none) ↔ (AcceptedImage s × (doubledSize (netsOf s) ≤ 8192))
   pub double : (s buf : List ℕ)
       → (doubleRefusal s buf ≡ none) ↔ (AcceptedImage s × (doubledSize (netsOf s) ≤ 8192) × (length buf ≡ 8 + 7 * doubledSize (netsOf s)))

@@ -1,7 +1,8 @@
 -- All that is promised of the calls, as one record: read this first. Above each field stands what it means for a user; the statement itself is in the file that its
--- `use` line names. That the code does what these statements speak of (`checkRefusal`, `powerUpOf`, `stepOf`, `runOf`, `doubledSizeOf`, `doubleOf`) is the contract of each call, in
+-- `use` line names. That the code does what these statements speak of (`checkRefusal`, `powerUpOf`, `stepOf`, `runOf`, `staticPowerUpOf`, `staticRunOf`, `doubledSizeOf`, `doubleOf`) is the contract of each call, in
 -- src/ of its crate. The record is proved as `promised`, and used by the crate `exports`, field by field.
 use Rattle.gates.specs.Meaning.{GateValues, MarksExact, MuxComposed, GatesMonotone, RelationsMean}
+use Rattle.unknowns.specs.Exactness.{StaticExact}
 use Rattle.claims.specs.Terms.{Terms}
 use Rattle.claims.specs.Examples.{Examples}
 use Rattle.claims.specs.Reading.{ImageRead}
@@ -22,6 +23,9 @@ use Rattle.claims.specs.Pairing.{Demand2}
 use Rattle.claims.specs.TwoRun.{Demand3}
 use Rattle.claims.specs.InBytes.{ClearStays, StepsAgree, DoubledShows}
 use Rattle.claims.specs.UnknownStart.{UnknownStarts}
+use Rattle.claims.specs.StaticRuns.{StaticSound, StaticWakes, StaticRuns}
+use Rattle.claims.specs.StaticBytes.{StaticClear, StaticStartsAll}
+use Rattle.claims.specs.StaticPlain.{StaticPlain}
 use Rattle.claims.specs.Upright.{Uprights}
 
 pub record Promised : Type 0 where
@@ -34,6 +38,8 @@ pub record Promised : Type 0 where
   pub steps-agree : StepsAgree
   -- A run of the doubled netlist shows, as plain values, the values and marks of the run on its source, where that is not refused, from power-up and from any state.
   pub doubled-shows : DoubledShows
+  -- A static run that is clear (document 02, L4) makes every run clear that fills its unknown bits, and known values are that run's values.
+  pub static-clear : StaticClear
   -- THE TERMS of the statements below: the numbers of the kinds, a count of nets, a mark, the outputs of a cycle, the doubled size.
   pub terms : Terms
   -- THE IMAGE. What is read from its bytes are the sizes, kinds and operands that document 01 puts there.
@@ -103,5 +109,17 @@ pub record Promised : Type 0 where
   pub demand3 : Demand3
   -- "Agree", by which that is said, means of bytes 0 to 3 equal marks, and equal values where the mark is 0.
   pub relations-mean : RelationsMean
+  -- STATIC RUNS (document 02, L4). What a static run says holds of every run that it covers: in every cycle, for every net, output and register, from any covered state.
+  pub static-sound : StaticSound
+  -- What static power-up leaves covers power-up, and every state with which the array may wake.
+  pub static-wakes : StaticWakes
+  -- So it holds over lists of runs, refused ones included, from power-up and from every state with which the array may wake.
+  pub static-runs : StaticRuns
+  -- At static power-up a register without a start is an unknown untrusted bit, and every other has its start.
+  pub static-starts : StaticStartsAll
+  -- Without unknown bits and without start 2 static calls give the answers and bytes of the plain ones.
+  pub static-plain : StaticPlain
+  -- At a gate no code that covers all fillings of its pins says more than the static rule.
+  pub static-exact : StaticExact
   -- IMAGES WITHOUT INVERTED PINS (document 02, L3) give by every call what they gave before, and the doubled image of before; and all images that were accepted before are such.
   pub upright : Uprights

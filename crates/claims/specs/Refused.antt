@@ -1,7 +1,7 @@
--- Which refusal each call gives: its number, its place, and the order of the conditions (document 01, "When a call turns back").
+-- Which refusal each call gives: its number, its place, and the order of the conditions (document 01, "When a call turns back"; document 02, L4, for 18).
 -- Each condition stands with what has to hold for it to be tried, so that of any call at most one of them holds; where none does, the call is accepted (Accepted).
 use Prim.Native.Nat.{ℕ, _+_, _*_, _≤_, _<_}
-use mathlib.Core.Logic.{_↔_}
+use mathlib.Core.Logic.{_↔_, _⊎_}
 use mathlib.Core.Path.{_≡_}
 use mathlib.Core.List.{List}
 use mathlib.Core.Option.{some}
@@ -14,8 +14,9 @@ use Rattle.cycle.specs.Calls.{stateLength, refused, powerUpOf, stepOf, runOf}
 use Rattle.doubled.specs.Doubled.{doubledSize}
 use Rattle.figures.specs.Figures.{doubledSizeOf}
 use Rattle.doubling.specs.Doubling.{doubleOf}
+use Rattle.static_run.specs.StaticCalls.{staticPowerUpOf, staticRunOf}
 use Rattle.claims.specs.Reading.{netOf}
-use Rattle.claims.specs.Accepted.{Sized, PinsBelow, ValuesListed, UnlistedZero, NetsAccepted, RightCounts, AcceptedImage, AcceptedState, AcceptedRows}
+use Rattle.claims.specs.Accepted.{Sized, PinsBelow, ValuesListed, UnlistedZero, NetsAccepted, RightCounts, AcceptedImage, AcceptedState, AcceptedRows, AcceptedStaticState, AcceptedStaticRows}
 
 -- a call, with the state and the bytes that it is lent beside its image
 pub data AnyCall : Type 0 where
@@ -23,6 +24,8 @@ pub data AnyCall : Type 0 where
   power-up : (st : List ℕ) → AnyCall
   step : (st row nets : List ℕ) → AnyCall
   run : (st : List ℕ) (k : ℕ) (rows outputs : List ℕ) → AnyCall
+  static-power-up : (st : List ℕ) → AnyCall
+  static-run : (st : List ℕ) (k : ℕ) (rows outputs : List ℕ) → AnyCall
   doubled-size : AnyCall
   double : (buf : List ℕ) → AnyCall
 
@@ -32,6 +35,8 @@ Gives s check r = checkRefusal s ≡ some r
 Gives s (power-up st) r = powerUpOf s st .refusal ≡ some r
 Gives s (step st row nets) r = stepOf s st row nets .answer ≡ refused r
 Gives s (run st k rows outputs) r = runOf s st k rows outputs .answer ≡ refused r
+Gives s (static-power-up st) r = staticPowerUpOf s st .refusal ≡ some r
+Gives s (static-run st k rows outputs) r = staticRunOf s st k rows outputs .answer ≡ refused r
 Gives s doubled-size r = doubledSizeOf s .refusal ≡ some r
 Gives s (double buf) r = doubleOf s buf .refusal ≡ some r
 
@@ -40,6 +45,12 @@ pub record FirstAbove3 (xs : List ℕ) (i : ℕ) : Type 0 where
   pub below : i < length xs
   pub above : 3 < getD xs i 0
   pub first : (j : ℕ) → j < i → getD xs j 0 ≤ 3
+
+-- byte i of xs is the first that is 5 or above 6
+pub record FirstNoCode (xs : List ℕ) (i : ℕ) : Type 0 where
+  pub below : i < length xs
+  pub no-code : (getD xs i 0 ≡ 5) ⊎ (6 < getD xs i 0)
+  pub first : (j : ℕ) → j < i → (getD xs j 0 ≡ 5 → ⊥) × (getD xs j 0 ≤ 6)
 
 -- at x as net i of n, the number of the first of 4 to 7 that applies
 module _ (n i : ℕ) (x : Net) where
@@ -69,6 +80,14 @@ module _ (s : List ℕ) where
       row-byte : {i : ℕ} → AcceptedState s st → length rows ≡ rowBytes → FirstAbove3 rows i → BadLent 13 i
       buffer-size : AcceptedState s st → AcceptedRows rowBytes rows → (length buffer ≡ filled → ⊥) → BadLent 14 0
 
+    -- the same of a static run, with 18 where 11 and 13 stand
+    pub data BadStatic : (number place : ℕ) → Type 0 where
+      static-state-size : (length st ≡ sizesOf s .registers → ⊥) → BadStatic 10 0
+      static-state-byte : {i : ℕ} → length st ≡ sizesOf s .registers → FirstNoCode st i → BadStatic 18 i
+      static-row-size : AcceptedStaticState s st → (length rows ≡ rowBytes → ⊥) → BadStatic 12 0
+      static-row-byte : {i : ℕ} → AcceptedStaticState s st → length rows ≡ rowBytes → FirstNoCode rows i → BadStatic 18 i
+      static-buffer-size : AcceptedStaticState s st → AcceptedStaticRows rowBytes rows → (length buffer ≡ filled → ⊥) → BadStatic 14 0
+
   -- of all that the call meets. There is no line for 17, which is never given
   pub data Refused : AnyCall → (number place : ℕ) → Type 0 where
     -- 1 to 8: every call
@@ -86,6 +105,14 @@ module _ (s : List ℕ) where
         {st : List ℕ} {k : ℕ} {rows outputs : List ℕ} {number place : ℕ} → AcceptedImage s → k ≤ 4096
         → BadLent (k * sizesOf s .inputs) (k * sizesOf s .outputs) st rows outputs number place
         → Refused (run st k rows outputs) number place
+    -- 10: static power-up
+    bad-static-state : {st : List ℕ} → AcceptedImage s → (length st ≡ sizesOf s .registers → ⊥) → Refused (static-power-up st) 10 0
+    -- 9, and then 10, 18, 12, 18 and 14: a static run
+    many-static-cycles : {st : List ℕ} {k : ℕ} {rows outputs : List ℕ} → AcceptedImage s → 4096 < k → Refused (static-run st k rows outputs) 9 0
+    bad-static-run :
+        {st : List ℕ} {k : ℕ} {rows outputs : List ℕ} {number place : ℕ} → AcceptedImage s → k ≤ 4096
+        → BadStatic (k * sizesOf s .inputs) (k * sizesOf s .outputs) st rows outputs number place
+        → Refused (static-run st k rows outputs) number place
     -- 15: the doubled size
     size-large : AcceptedImage s → 8192 < doubledSize (netsOf s) → Refused doubled-size 15 0
     -- 15 and 16: doubling

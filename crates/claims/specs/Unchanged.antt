@@ -6,6 +6,7 @@ use mathlib.Core.Option.{some}
 use Rattle.refusals.specs.declared.answer.Refusal.{Refusal}
 use Rattle.cycle.specs.Calls.{refused, powerUpOf, stepOf, runOf}
 use Rattle.doubling.specs.Doubling.{doubleOf}
+use Rattle.static_run.specs.StaticCalls.{staticPowerUpOf, staticRunOf}
 
 -- proved as `unchanged`
 pub record Unchanged : Type 0 where
@@ -16,4 +17,8 @@ pub record Unchanged : Type 0 where
   pub run :
       (s st : List ℕ) (k : ℕ) (rows outputs : List ℕ) (r : Refusal) → runOf s st k rows outputs .answer ≡ refused r
       → (runOf s st k rows outputs .state ≡ st) × (runOf s st k rows outputs .outputs ≡ outputs)
+  pub static-power-up : (s st : List ℕ) (r : Refusal) → staticPowerUpOf s st .refusal ≡ some r → staticPowerUpOf s st .state ≡ st
+  pub static-run :
+      (s st : List ℕ) (k : ℕ) (rows outputs : List ℕ) (r : Refusal) → staticRunOf s st k rows outputs .answer ≡ refused r
+      → (staticRunOf s st k rows outputs .state ≡ st) × (staticRunOf s st k rows outputs .outputs ≡ outputs)
   pub double : (s buf : List ℕ) (r : Refusal) → doubleOf s buf .refusal ≡ some r → doubleOf s buf .buffer ≡ buf

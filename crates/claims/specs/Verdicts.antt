@@ -8,7 +8,7 @@ use Rattle.gates.specs.Kinds.{OUT}
 use Rattle.gates.specs.Rules.{mark}
 use Rattle.image.specs.declared.image.Net.{Net}
 use Rattle.image.specs.Image.{net}
-use Rattle.cycle.specs.Cycle.{plain, Verdict, clear, flow, Cycle, cycleOf, FirstFlow, firstFlow}
+use Rattle.cycle.specs.Cycle.{Rule, Verdict, clear, flow, Cycle, cycleOf, FirstFlow, firstFlow}
 
 -- net i is a protected OUT with mark 1, by the bytes bs of all nets
 pub record MarkedOutput (xs : List Net) (bs : List ℕ) (i : ℕ) : Type 0 where
@@ -22,9 +22,11 @@ pub data Judged (xs : List Net) (bs : List ℕ) : Verdict → Type 0 where
   none : ((i : ℕ) → MarkedOutput xs bs i → ⊥) → Judged xs bs clear
   lowest : {i : ℕ} → MarkedOutput xs bs i → ((j : ℕ) → j < i → MarkedOutput xs bs j → ⊥) → Judged xs bs (flow i)
 
--- proved as `verdicts`
+-- of every cycle, plain or static, and whatever the rule of its gates; proved as `verdicts`
 abbrev pub Verdicts : Type 0
-Verdicts = (xs : List Net) (row state : List ℕ) → Judged xs (cycleOf plain xs row state .bytes) (cycleOf plain xs row state .verdict)
+Verdicts =
+    (rule : Rule) (xs : List Net) (row state : List ℕ)
+    → let c = cycleOf (record { gate = rule; marked = mark }) xs row state in Judged xs (c .bytes) (c .verdict)
 
 -- the first flow among verdicts, one a cycle: clear with the number of cycles where all are clear, and else the first cycle with a flow, and that flow
 pub data First (vs : List Verdict) : FirstFlow → Type 0 where

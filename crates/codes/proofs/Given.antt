@@ -1,4 +1,4 @@
--- Every refusal that a call gives has a number from 1 to 17 and a place below 2^32.
+-- Every refusal that a call gives has a number from 1 to 18 and a place below 2^32.
 use Prim.Native.Nat.{ℕ, _^_, _≤_, _<_}
 use native.Mathlib.Omega.{arith}
 use native.Mathlib.Nat.{mul-le-mul}
@@ -12,14 +12,15 @@ use Rattle.refusals.specs.declared.answer.Refusal.{Refusal}
 use Rattle.checking.specs.Check.{checkRefusal}
 use Rattle.cycle.specs.Calls.{powerUpOf}
 use Rattle.doubling.specs.Doubling.{doubleOf}
+use Rattle.static_run.specs.StaticCalls.{staticPowerUpOf}
 use Rattle.claims.specs.Accepted.{AcceptedImage}
 use Rattle.claims.specs.Refused as table
-use Rattle.claims.specs.Refused.{AnyCall, Gives, BadNet, BadImage, BadLent, Refused}
+use Rattle.claims.specs.Refused.{AnyCall, Gives, BadNet, BadImage, BadLent, BadStatic, Refused}
 use Rattle.claims.proofs.Promised.{promised}
 
 pub record Tabled (number place : ℕ) : Type 0 where
   pub some-number : 1 ≤ number
-  pub most : number ≤ 17
+  pub most : number ≤ 18
   pub low : place < 2 ^ 32
 
 -- there are at most 8,192 registers, and as many inputs
@@ -43,7 +44,7 @@ bad-net (table.value h k m) l = record { some-number = omega arith; most = omega
 bad-net (table.unlisted h k m o) l = record { some-number = omega arith; most = omega arith; low = l }
 
 -- with place 0
-plain : {number : ℕ} → 1 ≤ number → number ≤ 17 → Tabled number 0
+plain : {number : ℕ} → 1 ≤ number → number ≤ 18 → Tabled number 0
 plain l m = record { some-number = l; most = m; low = omega arith }
 
 bad-image : {s : List ℕ} {number place : ℕ} → BadImage s number place → Tabled number place
@@ -62,12 +63,23 @@ bad-lent f l (table.row-size h k) = plain (omega arith) (omega arith)
 bad-lent f l (table.row-byte a e h) = record { some-number = omega arith; most = omega arith; low = omega (arith, h .below) }
 bad-lent f l (table.buffer-size h k m) = plain (omega arith) (omega arith)
 
+bad-static : {s : List ℕ} {rowBytes filled : ℕ} {st rows buffer : List ℕ} {number place : ℕ} → Few s → rowBytes ≤ 2 ^ 32
+    → BadStatic s rowBytes filled st rows buffer number place → Tabled number place
+bad-static f l (table.static-state-size h) = plain (omega arith) (omega arith)
+bad-static f l (table.static-state-byte e h) = record { some-number = omega arith; most = omega arith; low = omega (arith, h .below, f .registers) }
+bad-static f l (table.static-row-size h k) = plain (omega arith) (omega arith)
+bad-static f l (table.static-row-byte a e h) = record { some-number = omega arith; most = omega arith; low = omega (arith, h .below) }
+bad-static f l (table.static-buffer-size h k m) = plain (omega arith) (omega arith)
+
 refused-tabled : (s : List ℕ) {c : AnyCall} {number place : ℕ} → Refused s c number place → Tabled number place
 refused-tabled s (table.bad-image h) = bad-image h
 refused-tabled s (table.bad-state h k) = plain (omega arith) (omega arith)
 refused-tabled s (table.bad-step a h) = let f = few s a in bad-lent f (omega (arith, f .inputs)) h
 refused-tabled s (table.many-cycles h k) = plain (omega arith) (omega arith)
 refused-tabled s (table.bad-run a h k) = let f = few s a in bad-lent f (omega (arith, mul-le-mul h (f .inputs))) k
+refused-tabled s (table.bad-static-state h k) = plain (omega arith) (omega arith)
+refused-tabled s (table.many-static-cycles h k) = plain (omega arith) (omega arith)
+refused-tabled s (table.bad-static-run a h k) = let f = few s a in bad-static f (omega (arith, mul-le-mul h (f .inputs))) k
 refused-tabled s (table.doubled-large h k) = plain (omega arith) (omega arith)
 refused-tabled s (table.size-large h k) = plain (omega arith) (omega arith)
 refused-tabled s (table.doubled-length h k m) = plain (omega arith) (omega arith)
@@ -89,6 +101,9 @@ check-given s = given _ (λ r e. tabled s table.check r e)
 
 pub powered-up-given : (s st : List ℕ) → Given (powerUpOf s st .refusal)
 powered-up-given s st = given _ (λ r e. tabled s (table.power-up st) r e)
+
+pub static-powered-up-given : (s st : List ℕ) → Given (staticPowerUpOf s st .refusal)
+static-powered-up-given s st = given _ (λ r e. tabled s (table.static-power-up st) r e)
 
 pub doubled-given : (s buffer : List ℕ) → Given (doubleOf s buffer .refusal)
 doubled-given s buffer = given _ (λ r e. tabled s (table.double buffer) r e)

@@ -10,8 +10,8 @@ use Rattle.cycle.specs.Cycle.{Verdict, clear, flow, FirstFlow}
 use Rattle.cycle.specs.Calls.{Answer, done}
 use Rattle.codes.specs.Codes.{refusalCode, outcomeCode, verdictCode, firstFlowCode, answerCode}
 use Rattle.codes.specs.Readings.{refusalRead, outcomeRead, verdictRead, stepRead, firstFlowRead, runRead, figureRead, CodesRead}
-use Rattle.codes.proofs.Given.{Tabled, Given, no, one, check-given, powered-up-given, doubled-given}
-use Rattle.codes.proofs.Small.{Naming, no-net, names, Among, Answered, gave, turned-back, step-answered, run-answered, size-answered, kind-answered, naming-small, among-small}
+use Rattle.codes.proofs.Given.{Tabled, Given, no, one, check-given, powered-up-given, static-powered-up-given, doubled-given}
+use Rattle.codes.proofs.Small.{Naming, no-net, names, Among, Answered, gave, turned-back, step-answered, run-answered, static-run-answered, size-answered, kind-answered, naming-small, among-small}
 
 -- a refusal: its number is not below 2^32, and is taken apart
 large : {r : Refusal} → Tabled (r .number) (r .place) → 2 ^ 32 ≤ refusalCode r
@@ -80,6 +80,8 @@ reads =
       power-up = λ s st. outcome-read (powered-up-given s st);
       step = λ s st row nets. step-read (step-answered s st row nets);
       run = λ s st k rows outputs. run-read (run-answered s st k rows outputs);
+      static-power-up = λ s st. outcome-read (static-powered-up-given s st);
+      static-run = λ s st k rows outputs. run-read (static-run-answered s st k rows outputs);
       doubled-size = λ s. figure-read (size-answered s);
       doubled-kind = λ s k. figure-read (kind-answered s k);
       double = λ s buffer. outcome-read (doubled-given s buffer);
@@ -91,4 +93,5 @@ reads =
       done-is-0 = refl;
       step-not-0 = λ s st row nets. step-some (step-answered s st row nets);
       run-not-0 = λ s st k rows outputs e. run-some (run-answered s st k rows outputs) e;
+      static-run-not-0 = λ s st k rows outputs e. run-some (static-run-answered s st k rows outputs) e;
     }

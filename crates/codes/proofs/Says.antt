@@ -6,6 +6,7 @@ use mathlib.Core.List.{List}
 use mathlib.Core.Option.{Option, none, some}
 use borrow.Author.Tests.{lt-ltb, le-ltb, ne-eqb}
 use lib.ListN.{length, List·getD-eq-default}
+use Rattle.gates.specs.Rules.{gateByte}
 use Rattle.image.specs.declared.image.Net.{Net}
 use Rattle.image.specs.Image.{sizesOf, netsOf, count}
 use Rattle.refusals.specs.declared.answer.Refusal.{Refusal}
@@ -59,7 +60,7 @@ step-unmarked s st row nets h =
     (λ e.
     let a = step-accepted s st row nets e in
     let v : done _ ≡ done clear = rw a at h in
-    rw a (none-marked (promised .verdicts (netsOf s) row st) cc))
+    rw a (none-marked (promised .verdicts gateByte (netsOf s) row st) cc))
     (λ r e. absurd (not-refused (sym (rw (step-refused s st row nets r e) at h))))
 
 -- a verdict that is a flow
@@ -74,7 +75,7 @@ step-marked s st row nets i h =
     (λ e.
     let a = step-accepted s st row nets e in
     let v : done _ ≡ done (flow i) = rw a at h in
-    rw a (marked-at (promised .verdicts (netsOf s) row st) i cc))
+    rw a (marked-at (promised .verdicts gateByte (netsOf s) row st) i cc))
     (λ r e. absurd (not-refused (sym (rw (step-refused s st row nets r e) at h))))
 
 flow-read : (n : ℕ) → n < 65535 → stepRead n ≡ done (flow n)

@@ -5,9 +5,11 @@ use mathlib.Core.Path.{_≡_, _∙_}
 use mathlib.Core.List.{List}
 use mathlib.Core.Option.{Option, none}
 use lib.ListN.{getD, take, drop}
+use Rattle.gates.specs.Rules.{mark, gateByte}
+use Rattle.unknowns.specs.Filling.{staticByte}
 use Rattle.image.specs.Image.{sizesOf, netsOf}
 use Rattle.refusals.specs.declared.answer.Refusal.{Refusal}
-use Rattle.cycle.specs.Cycle.{plain, Verdict, clear, flow, cycleOf, cyclesOf, FirstFlow, firstOf, firstFlow}
+use Rattle.cycle.specs.Cycle.{Rule, Rules, plain, Verdict, clear, flow, cycleOf, cyclesOf, FirstFlow, firstOf, firstFlow}
 use Rattle.cycle.specs.Calls.{Answer, done, refused, asStep, asRun, stepRefusal, stepOf, runRefusal, runOf}
 use Rattle.checking.proofs.Counting.{count-few}
 use Rattle.cycle.proofs.Calls.{either-way, step-accepted, step-refused, run-accepted, run-refused}
@@ -15,6 +17,8 @@ use Rattle.doubled.specs.Doubled.{doubledNets}
 use Rattle.doubled.proofs.Positions.{doubled-length}
 use Rattle.figures.specs.Figures.{sizeRefusal, doubledSizeOf}
 use Rattle.figures.proofs.Refusing.{size-none, size-accepted, size-given}
+use Rattle.static_run.specs.StaticCalls.{static, staticRunRefusal, staticRunOf}
+use Rattle.static_run.proofs.StaticRefused.{static-accepted, static-refused}
 use Rattle.claims.specs.Accepted.{AcceptedImage}
 use Rattle.claims.specs.Refused as table
 use Rattle.claims.specs.Verdicts as judged
@@ -36,8 +40,12 @@ judged-names s a (lowest {i} m h) =
     let pin = a .nets i l .pins .a (omega (arith, m .out)) (omega (arith, m .out)) in
     names {i = i} (omega (arith, pin)) (omega (arith, a .sized .few-nets))
 
-verdict-names : (s : List ℕ) → AcceptedImage s → (row st : List ℕ) → Naming 8192 (cycleOf plain (netsOf s) row st .verdict)
-verdict-names s a row st = judged-names s a (promised .verdicts (netsOf s) row st)
+-- of a cycle, plain or static
+abbrev by : Rule → Rules
+by rule = record { gate = rule; marked = mark }
+
+verdict-names : (rule : Rule) (s : List ℕ) → AcceptedImage s → (row st : List ℕ) → Naming 8192 (cycleOf (by rule) (netsOf s) row st .verdict)
+verdict-names rule s a row st = judged-names s a (promised .verdicts rule (netsOf s) row st)
 
 -- a first flow among cycles up to the last one, with a verdict on n nets
 pub record Among (last n : ℕ) (f : FirstFlow) : Type 0 where
@@ -50,14 +58,15 @@ first-among clear h l a = a
 first-among (flow net) h l a = record { cycle = h; verdict = l }
 
 flow-among :
-    (s : List ℕ) → AcceptedImage s → (inputs k i : ℕ) (rows st : List ℕ) → Among (i + k) 8192 (firstFlow i (cyclesOf plain (netsOf s) inputs k rows st))
+    (rule : Rule) (s : List ℕ) → AcceptedImage s → (inputs k i : ℕ) (rows st : List ℕ)
+    → Among (i + k) 8192 (firstFlow i (cyclesOf (by rule) (netsOf s) inputs k rows st))
 unfolding cyclesOf firstFlow
-flow-among s a inputs zero i rows st = record { cycle = omega arith; verdict = no-net }
-flow-among s a inputs (suc k) i rows st =
+flow-among rule s a inputs zero i rows st = record { cycle = omega arith; verdict = no-net }
+flow-among rule s a inputs (suc k) i rows st =
     let e : suc i + k ≡ i + suc k = omega arith in
-    let c = cycleOf plain (netsOf s) (take inputs rows) st in
-    first-among (c .verdict) (omega arith) (verdict-names s a (take inputs rows) st)
-    (rw e at (flow-among s a inputs k (suc i) (drop inputs rows) (c .state)))
+    let c = cycleOf (by rule) (netsOf s) (take inputs rows) st in
+    first-among (c .verdict) (omega arith) (verdict-names rule s a (take inputs rows) st)
+    (rw e at (flow-among rule s a inputs k (suc i) (drop inputs rows) (c .state)))
 
 -- what a call answers: a result of which P holds, or a refusal of the table
 pub data Answered {A : Type 0} (P : A → Type 0) : Answer A → Type 0 where
@@ -70,7 +79,7 @@ step-answered s st row nets =
     either-way (stepRefusal s st row nets)
     (λ h.
     let a = promised .when-accepted .step s st row nets .0 h .0 in
-    rw (step-accepted s st row nets h) (gave (cycleOf plain (netsOf s) row st .verdict) (verdict-names s a row st)))
+    rw (step-accepted s st row nets h) (gave (cycleOf plain (netsOf s) row st .verdict) (verdict-names gateByte s a row st)))
     (λ r h. let e = step-refused s st row nets r h in rw e (turned-back (tabled s (table.step st row nets) r (rw e))))
 
 pub run-answered : (s st : List ℕ) (k : ℕ) (rows outputs : List ℕ) → Answered (Among 4096 8192) (runOf s st k rows outputs .answer)
@@ -79,10 +88,21 @@ run-answered s st k rows outputs =
     either-way (runRefusal s st k rows outputs)
     (λ h.
     let n = promised .when-accepted .run s st k rows outputs .0 h in
-    let a = flow-among s (n .0) (sizesOf s .inputs) k 0 rows st in
+    let a = flow-among gateByte s (n .0) (sizesOf s .inputs) k 0 rows st in
     rw (run-accepted s st k rows outputs h)
     (gave (firstFlow 0 (cyclesOf plain (netsOf s) (sizesOf s .inputs) k rows st)) (record { cycle = omega (arith, a .cycle, n .1); verdict = a .verdict })))
     (λ r h. let e = run-refused s st k rows outputs r h in rw e (turned-back (tabled s (table.run st k rows outputs) r (rw e))))
+
+pub static-run-answered : (s st : List ℕ) (k : ℕ) (rows outputs : List ℕ) → Answered (Among 4096 8192) (staticRunOf s st k rows outputs .answer)
+unfolding asRun
+static-run-answered s st k rows outputs =
+    either-way (staticRunRefusal s st k rows outputs)
+    (λ h.
+    let n = promised .when-accepted .static-run s st k rows outputs .0 h in
+    let a = flow-among staticByte s (n .0) (sizesOf s .inputs) k 0 rows st in
+    rw (static-accepted s st k rows outputs h)
+    (gave (firstFlow 0 (cyclesOf static (netsOf s) (sizesOf s .inputs) k rows st)) (record { cycle = omega (arith, a .cycle, n .1); verdict = a .verdict })))
+    (λ r h. let e = static-refused s st k rows outputs r h in rw e (turned-back (tabled s (table.static-run st k rows outputs) r (rw e))))
 
 -- THE FIGURES of the doubled netlist
 figure-answered : (s : List ℕ) (figure : ℕ) → (sizeRefusal s ≡ none → figure ≤ 8192) → Answered (λ n. n ≤ 8192) (figureAnswer (doubledSizeOf s .refusal) figure)

@@ -13,6 +13,7 @@ use Rattle.cycle.specs.Cycle.{Verdict, clear, flow, FirstFlow}
 use Rattle.cycle.specs.Calls.{Answer, done, refused, powerUpOf, stepOf, runOf}
 use Rattle.figures.specs.Figures.{doubledSizeOf}
 use Rattle.doubling.specs.Doubling.{doubleOf}
+use Rattle.static_run.specs.StaticCalls.{staticPowerUpOf, staticRunOf}
 use Rattle.codes.specs.Codes.{refusalCode, outcomeCode, verdictCode, firstFlowCode, figureAnswer, answerCode, sizeCode, kindCode}
 
 -- a refusal: its number stands above its place
@@ -51,6 +52,10 @@ pub record CodesRead : Type 0 where
   pub run :
       (s st : List ℕ) (k : ℕ) (rows outputs : List ℕ)
       → runRead (answerCode firstFlowCode (runOf s st k rows outputs .answer)) ≡ runOf s st k rows outputs .answer
+  pub static-power-up : (s st : List ℕ) → outcomeRead (outcomeCode (staticPowerUpOf s st .refusal)) ≡ staticPowerUpOf s st .refusal
+  pub static-run :
+      (s st : List ℕ) (k : ℕ) (rows outputs : List ℕ)
+      → runRead (answerCode firstFlowCode (staticRunOf s st k rows outputs .answer)) ≡ staticRunOf s st k rows outputs .answer
   pub doubled-size : (s : List ℕ) → figureRead (sizeCode (doubledSizeOf s)) ≡ figureAnswer (doubledSizeOf s .refusal) (doubledSizeOf s .nets)
   pub doubled-kind :
       (s : List ℕ) (k : ℕ) → figureRead (kindCode (doubledSizeOf s) k) ≡ figureAnswer (doubledSizeOf s .refusal) (getD (doubledSizeOf s .kinds) k 0)
@@ -67,3 +72,5 @@ pub record CodesRead : Type 0 where
   pub step-not-0 : (s st row nets : List ℕ) → 1 ≤ answerCode verdictCode (stepOf s st row nets .answer)
   pub run-not-0 :
       (s st : List ℕ) (k : ℕ) (rows outputs : List ℕ) {f : FirstFlow} → runOf s st k rows outputs .answer ≡ done f → 1 ≤ firstFlowCode f % 65536
+  pub static-run-not-0 :
+      (s st : List ℕ) (k : ℕ) (rows outputs : List ℕ) {f : FirstFlow} → staticRunOf s st k rows outputs .answer ≡ done f → 1 ≤ firstFlowCode f % 65536

@@ -55,7 +55,7 @@ AnyCode x y = isCode x ≡ true
 code-good : (x y : ℕ) → (noCode x ≡ false) ↔ AnyCode x y
 code-good x y = (λ h. rw h, not-true (noCode x))
 
-code-none : (number i : ℕ) (xs : List ℕ) → (badByte noCode number i xs ≡ none) ↔ Forall₂ AnyCode xs xs
+pub code-none : (number i : ℕ) (xs : List ℕ) → (badByte noCode number i xs ≡ none) ↔ Forall₂ AnyCode xs xs
 code-none = none-bad noCode code-good
 
 pub static-none :

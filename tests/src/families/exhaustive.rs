@@ -1,6 +1,6 @@
 //! All good netlists of 1, 2 and 3 nets, with each pin inverted or not. Each is
-//! stepped from all states on all rows, run, and doubled; before that its figures
-//! are asked for.
+//! stepped from all states on all rows, run, run statically from static power-up, and
+//! doubled; before that its figures are asked for.
 
 use crate::all::{all_bytes, chosen, Pins};
 use crate::call::Call;
@@ -40,6 +40,10 @@ pub fn run(case: &mut Case) -> Outcome {
         let mut run = drawing::run(&mut case.random, &counts, 4, &state);
         case.compare(&image, &mut run)?;
     }
+    let mut powered = Call::static_power_up(case.random.bytes(counts.registers));
+    case.compare(&image, &mut powered)?;
+    let mut run = drawing::static_run(&mut case.random, &counts, 4, &powered.state);
+    case.compare(&image, &mut run)?;
     compare_doubling(case, &image, &counts)
 }
 

@@ -32,7 +32,7 @@ pub fn run(case: &mut Case) -> Outcome {
     for _ in 0..case.random.between(1, 3) {
         let k = few(&mut case.random);
         let mut run = drawing::run(&mut case.random, &counts, k, &state);
-        if case.random.chance(1, 4) {
+        for _ in 0..case.random.pick(&[0, 0, 0, 1, 2]) {
             drawing::put_fault(&mut case.random, &counts, &mut run, true);
         }
         let left = runs(case, &image, run)?;

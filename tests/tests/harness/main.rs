@@ -23,8 +23,10 @@ use tests::{named, run_case, run_family, Failure, Family, Tally, FAMILIES, LIBRA
 /// A family that has to catch a stand-in has so many cases for it.
 const MOST_CASES: u64 = 5000;
 
-/// Other families are tried with so many cases, to see whether they catch it.
+/// Other families are tried with so many cases, to see whether they catch it, and
+/// those whose cases take long with fewer.
 const FEW_CASES: u64 = 100;
+const FEWER_CASES: u64 = 5;
 
 /// Runs the first cases of a family with a stand-in.
 fn tried(stand_in: &StandIn, family: &Family, cases: u64) -> Option<Box<Failure>> {
@@ -71,7 +73,7 @@ fn which_family_catches_which() {
             let has_to = stand_in.caught_by.contains(&family.name);
             let cases = match family.name {
                 _ if has_to => MOST_CASES,
-                "large" | "operands" => 10,
+                "four_nets" | "operands" | "large" | "doubling" | "static_gates" => FEWER_CASES,
                 "extreme" => 0,
                 _ => FEW_CASES,
             };

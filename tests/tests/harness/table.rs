@@ -219,7 +219,7 @@ pub const STAND_INS: [StandIn; 77] = [
     stand_in("gives 11 and 13 for 18", static_calls::NUMBERS_OF_RUNS,
         &["lent", "lists", "known"], answer),
     stand_in("counts a bad static byte within its row", static_calls::PLACE_IN_ITS_ROW,
-        &["lent", "lists", "known"], place),
+        &["lent", "lists"], place),
     stand_in("refuses static bytes and writes", lent_bytes::REFUSED_WRITES_STATIC,
         &["lent", "lists", "known"], refused),
     stand_in("takes 32 bits of a static run's k", order::NARROW_K_STATIC,
