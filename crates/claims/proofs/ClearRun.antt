@@ -15,7 +15,7 @@ use Rattle.image.specs.Image.{sizesOf, netsOf}
 use Rattle.image.proofs.Pairs.{pairs-getD}
 use Rattle.image.proofs.Nets.{length-nets}
 use Rattle.checking.proofs.Checked.{check-none}
-use Rattle.cycle.specs.Cycle.{plain, Verdict, clear, cycleOf, cyclesOf, outputsOf, FirstFlow, firstFlow}
+use Rattle.cycle.specs.Cycle.{Rules, plain, Verdict, clear, cycleOf, cyclesOf, outputsOf, FirstFlow, firstFlow}
 use Rattle.cycle.specs.Calls.{done, asRun, runOf}
 use Rattle.cycle.proofs.Calls.{Ready, run-none, run-accepted, first-ready, rest-ready}
 use Rattle.claims.specs.NetBytes.{netOf, placeOf}
@@ -88,10 +88,10 @@ module _ (s : List ℕ) (i : ℕ) (l : i < sizesOf s .nets) (out : netOf s i .ki
       (all-unmarked k (drop (sizesOf s .inputs) rows) (o .state) (rest-ready k r) (λ d q. h (suc d) (omega arith)) c (omega arith))
 
 -- how many cycles there are
-pub cycles-length : (s : List ℕ) (k : ℕ) (rows st : List ℕ) → length (map (λ o. o .verdict) (cyclesOf plain (netsOf s) (sizesOf s .inputs) k rows st)) ≡ k
+pub cycles-length : (rules : Rules) (s : List ℕ) (k : ℕ) (rows st : List ℕ) → length (map (λ o. o .verdict) (cyclesOf rules (netsOf s) (sizesOf s .inputs) k rows st)) ≡ k
 unfolding cyclesOf
-cycles-length s zero rows st = refl
-cycles-length s (suc k) rows st = ap suc (cycles-length s k _ _)
+cycles-length rules s zero rows st = refl
+cycles-length rules s (suc k) rows st = ap suc (cycles-length rules s k _ _)
 
 -- the outputs of a clear run
 run-unmarked : (s st : List ℕ) (k : ℕ) (rows outputs : List ℕ) → runOf s st k rows outputs .answer ≡ clearAfter k
@@ -106,7 +106,7 @@ run-unmarked s st k rows outputs h c i m l out protected =
     let v : firstFlow 0 cs .verdict ≡ clear = cc in
     let each = clear-each (first-flows cs) v in
     rw e (all-unmarked s i l out protected k rows st (run-none s st k rows outputs .0 t .0)
-    (λ d q. each d (omega (arith, cycles-length s k rows st))) c m)
+    (λ d q. each d (omega (arith, cycles-length plain s k rows st))) c m)
 
 pub clear-stays : ClearStays
 unfolding callResult

@@ -3,7 +3,6 @@ use Prim.Native.Nat.{ℕ, _/_, _%_, _≤_, _<_}
 use native.Mathlib.Omega.{arith}
 use mathlib.Core.Path.{_≡_, refl, sym, _∙_}
 use mathlib.Core.List.{List}
-use mathlib.Core.Option.{none}
 use mathlib.Core.Bool.{Bool, true, false}
 use lib.Dec.{eqb, lit≤}
 use lib.ListN.{length, getD}
@@ -17,17 +16,15 @@ use Rattle.image.specs.Image.{sizesOf, netsOf}
 use Rattle.image.proofs.Pairs.{pairs-places, pairs-getD, pairs-length}
 use Rattle.checking.proofs.Checked.{Checked, check-none}
 use Rattle.cycle.specs.Calls.{start}
-use Rattle.cycle.proofs.Calls.{either-way}
 use Rattle.cycle.proofs.Cycles.{registers-length}
 use Rattle.cycle.proofs.Selections.{registers-selected}
-use Rattle.static_run.specs.StaticCalls.{staticStart, staticStarts, staticPowerUpOf, staticRunRefusal, staticRunOf}
-use Rattle.static_run.proofs.StaticRefused.{static-power-up-none, static-power-up-accepted, static-refused}
+use Rattle.static_run.specs.StaticCalls.{staticStart, staticStarts, staticPowerUpOf}
+use Rattle.static_run.proofs.StaticRefused.{static-power-up-none, static-power-up-accepted}
 use Rattle.claims.specs.NetBytes.{netOf, Counted}
-use Rattle.claims.specs.InBytes.{clearAfter}
 use Rattle.claims.specs.StaticBytes.{FilledBy, ToldBy, StaticClear, StaticStartsAll}
 use Rattle.claims.proofs.NetBytes.{selected}
 use Rattle.claims.proofs.StaticRuns.{static-sound}
-use Rattle.claims.proofs.Unchanged.{not-refused}
+use Rattle.claims.proofs.Taken.{static-run-taken}
 
 -- FROM FILLING TO COVERING
 filled-covered : {x y : ℕ} → IsCode x → (x ≤ 3 → y ≡ x) → (x ≡ 4 → y ≤ 1) → (x ≡ 6 → (2 ≤ y) × (y ≤ 3)) → Covers x y
@@ -68,15 +65,10 @@ told h =
       marks = λ i l. mark-told (pairs-getD i 0 (covers-itself (lit≤ tt)) h);
     }
 
--- a run that is clear is not refused
-not-turned : (s st : List ℕ) (k : ℕ) (codes b : List ℕ) → staticRunOf s st k codes b .answer ≡ clearAfter k → staticRunRefusal s st k codes b ≡ none
-not-turned s st k codes b h =
-    either-way (staticRunRefusal s st k codes b) (λ e. e) (λ r e. absurd (not-refused {r = r} (sym h ∙ rw (static-refused s st k codes b r e))))
-
 pub static-clear : StaticClear
 static-clear s st st′ k codes rows b b′ p q l h =
     let sound = static-sound s st st′ k codes rows b b′ (covered p) (covered q) l in
-    let cycles = sound .accepted (not-turned s st k codes b h) in
+    let cycles = sound .accepted (static-run-taken s st k codes b h) in
     record { answer = cycles .clears h; outputs = told (cycles .outputs); state = told (sound .state) }
 
 -- POWER-UP

@@ -12,9 +12,11 @@ use Rattle.image.specs.Image.{sizesOf, netsOf, count}
 use Rattle.refusals.specs.declared.answer.Refusal.{Refusal}
 use Rattle.refusals.proofs.Refusals.{length-none}
 use Rattle.checking.proofs.Checked.{check-none}
-use Rattle.cycle.specs.Cycle.{plain, Verdict, clear, flow, cyclesOf, FirstFlow, firstFlow}
+use Rattle.cycle.specs.Cycle.{Rules, plain, Verdict, clear, flow, cyclesOf, FirstFlow, firstFlow}
 use Rattle.cycle.specs.Calls.{Answer, done, refused, asStep, asRun, stepRefusal, stepOf, runOf}
 use Rattle.cycle.proofs.Calls.{either-way, step-accepted, step-refused, run-accepted}
+use Rattle.static_run.specs.StaticCalls.{static, staticRunOf}
+use Rattle.static_run.proofs.StaticRefused.{static-accepted}
 use Rattle.figures.specs.Figures.{doubledSizeOf}
 use Rattle.figures.proofs.Refusing.{size-accepted, size-given}
 use Rattle.doubling.specs.Doubling.{doubleOf}
@@ -24,14 +26,14 @@ use Rattle.claims.specs.Verdicts as judged
 use Rattle.claims.specs.Verdicts.{MarkedOutput, Judged, First}
 use Rattle.claims.specs.InBytes.{clearAfter}
 use Rattle.claims.proofs.Unchanged.{not-refused}
-use Rattle.claims.proofs.Taken.{powered, run-taken}
+use Rattle.claims.proofs.Taken.{powered, run-taken, static-run-taken}
 use Rattle.claims.proofs.ClearRun.{cycles-length}
 use Rattle.claims.proofs.Promised.{promised}
 use Rattle.codes.specs.Codes.{outcomeCode, verdictCode, firstFlowCode, answerCode, sizeCode, kindCode}
 use Rattle.codes.specs.Readings.{outcomeRead, stepRead, runRead}
 use Rattle.codes.specs.Says.{NumbersSay}
 use Rattle.codes.proofs.Given.{tabled}
-use Rattle.codes.proofs.Small.{Answered, gave, turned-back, step-answered, run-answered, few-nets, naming-small, among-small}
+use Rattle.codes.proofs.Small.{Answered, gave, turned-back, step-answered, run-answered, static-run-answered, few-nets, naming-small, among-small}
 use Rattle.codes.proofs.Readings.{reads}
 
 -- REFUSED: the answer of which the number is 2^32 or more
@@ -94,23 +96,34 @@ clear-cycle : {vs : List Verdict} {f : FirstFlow} → First vs f → f .verdict 
 clear-cycle (judged.all-clear h) e = refl
 clear-cycle (judged.first l h b) e = let z : _≡_ {A = ℕ} 0 1 = cc in absurd (omega arith)
 
-clear-answer : (s st : List ℕ) (k : ℕ) (rows outputs : List ℕ) (f : FirstFlow) → runOf s st k rows outputs .answer ≡ done f → f .verdict ≡ clear
-    → runOf s st k rows outputs .answer ≡ clearAfter k
-unfolding asRun
-clear-answer s st k rows outputs f h e =
-    let a = run-accepted s st k rows outputs (run-taken s st k rows outputs h) in
-    let cs = cyclesOf plain (netsOf s) (sizesOf s .inputs) k rows st in
-    let g : done (firstFlow 0 cs) ≡ done f = rw a at h in
+-- so a run by any rules, with its cycles cs, answers that it is clear with K
+clear-answer : (rules : Rules) (s st : List ℕ) (k : ℕ) (rows : List ℕ) {answer : Answer FirstFlow} (f : FirstFlow)
+    → answer ≡ done (firstFlow 0 (cyclesOf rules (netsOf s) (sizesOf s .inputs) k rows st)) → answer ≡ done f → f .verdict ≡ clear → answer ≡ clearAfter k
+clear-answer rules s st k rows f is h e =
+    let cs = cyclesOf rules (netsOf s) (sizesOf s .inputs) k rows st in
+    let g : done (firstFlow 0 cs) ≡ done f = sym is ∙ h in
     let v : firstFlow 0 cs .verdict ≡ clear = cc in
-    rw (a, clear-cycle (promised .first-flows cs) v, cycles-length s k rows st)
+    is ∙ rw (clear-cycle (promised .first-flows cs) v, cycles-length rules s k rows st)
+
+-- the number of a clear run
+clear-read : (n : ℕ) → n < 2 ^ 32 → n % 65536 ≡ 65535 → runRead n ≡ done (record { cycle = n / 65536; verdict = clear })
+clear-read n l m = rw (lt-ltb n (2 ^ 32) l, m)
 
 run-is-clear : (s st : List ℕ) (k : ℕ) (rows outputs : List ℕ)
     → let n = answerCode firstFlowCode (runOf s st k rows outputs .answer) in
     n < 2 ^ 32 → n % 65536 ≡ 65535 → runOf s st k rows outputs .answer ≡ clearAfter k
+unfolding asRun
 run-is-clear s st k rows outputs l m =
-    let n = answerCode firstFlowCode (runOf s st k rows outputs .answer) in
-    let read : runRead n ≡ done (record { cycle = n / 65536; verdict = clear }) = rw (lt-ltb n (2 ^ 32) l, m) in
-    clear-answer s st k rows outputs (record { cycle = n / 65536; verdict = clear }) (sym (reads .run s st k rows outputs) ∙ read) refl
+    let h = sym (reads .run s st k rows outputs) ∙ clear-read _ l m in
+    clear-answer plain s st k rows _ (rw (run-accepted s st k rows outputs (run-taken s st k rows outputs h))) h refl
+
+static-is-clear : (s st : List ℕ) (k : ℕ) (rows outputs : List ℕ)
+    → let n = answerCode firstFlowCode (staticRunOf s st k rows outputs .answer) in
+    n < 2 ^ 32 → n % 65536 ≡ 65535 → staticRunOf s st k rows outputs .answer ≡ clearAfter k
+unfolding asRun
+static-is-clear s st k rows outputs l m =
+    let h = sym (reads .static-run s st k rows outputs) ∙ clear-read _ l m in
+    clear-answer static s st k rows _ (rw (static-accepted s st k rows outputs (static-run-taken s st k rows outputs h))) h refl
 
 -- THE FIGURES of the doubled netlist
 module _ (s buf : List ℕ) where
@@ -155,6 +168,10 @@ says =
       run-kept = λ s st k rows outputs h.
           let t = turned-answer firstFlowCode among-small (run-answered s st k rows outputs) h in
           promised .unchanged .run s st k rows outputs (t .refusal) (t .is);
+      static-power-up-kept = λ s st h. let t = turned-outcome _ h in promised .unchanged .static-power-up s st (t .refusal) (t .is);
+      static-run-kept = λ s st k rows outputs h.
+          let t = turned-answer firstFlowCode among-small (static-run-answered s st k rows outputs) h in
+          promised .unchanged .static-run s st k rows outputs (t .refusal) (t .is);
       double-kept = λ s buf h. let t = turned-outcome _ h in promised .unchanged .double s buf (t .refusal) (t .is);
       doubled-size = λ s buf h l. size-is s buf _ refl h l;
       doubled-turned = λ s buf k. size-turned s buf k _ refl;
@@ -165,6 +182,8 @@ says =
       check-refused = λ s n p h k e. promised .refusals s check (record { number = n; place = p }) .0 (sym (reads .check s) ∙ ap outcomeRead e ∙ refusal-read n p h k);
       run-clear = λ s st st′ k rows rows′ outputs outputs′ q p l m n.
           promised .clear-stays s st st′ k rows rows′ outputs outputs′ q p l (run-is-clear s st k rows outputs m n);
+      static-clear = λ s st st′ k codes rows outputs outputs′ p q l m n.
+          promised .static-clear s st st′ k codes rows outputs outputs′ p q l (static-is-clear s st k codes outputs m n);
       powered-up = λ s a st h w.
           let c = powered s a (sym (reads .power-up s a) ∙ ap outcomeRead h) in
           promised .unknown-start s (check-none s .1 (c .0)) .states a st (c .1) .0 w;

@@ -9,6 +9,8 @@ use Rattle.checking.specs.Check.{checkRefusal}
 use Rattle.cycle.specs.Calls.{powerUpOf, stepOf, runOf}
 use Rattle.figures.specs.Figures.{doubledSizeOf}
 use Rattle.doubling.specs.Doubling.{doubleOf}
+use Rattle.static_run.specs.StaticCalls.{staticPowerUpOf, staticRunOf}
+use Rattle.claims.specs.StaticBytes.{FilledBy, ClearToo}
 use Rattle.claims.specs.Accepted.{AcceptedImage}
 use Rattle.claims.specs.Refused.{AnyCall, Refused}
 use Rattle.claims.specs.Verdicts.{MarkedOutput}
@@ -28,6 +30,10 @@ pub record NumbersSay : Type 0 where
   pub run-kept :
       (s st : List ℕ) (k : ℕ) (rows outputs : List ℕ) → 2 ^ 32 ≤ answerCode firstFlowCode (runOf s st k rows outputs .answer)
       → (runOf s st k rows outputs .state ≡ st) × (runOf s st k rows outputs .outputs ≡ outputs)
+  pub static-power-up-kept : (s st : List ℕ) → 2 ^ 32 ≤ outcomeCode (staticPowerUpOf s st .refusal) → staticPowerUpOf s st .state ≡ st
+  pub static-run-kept :
+      (s st : List ℕ) (k : ℕ) (rows outputs : List ℕ) → 2 ^ 32 ≤ answerCode firstFlowCode (staticRunOf s st k rows outputs .answer)
+      → (staticRunOf s st k rows outputs .state ≡ st) × (staticRunOf s st k rows outputs .outputs ≡ outputs)
   pub double-kept : (s buf : List ℕ) → 2 ^ 32 ≤ outcomeCode (doubleOf s buf .refusal) → doubleOf s buf .buffer ≡ buf
   -- a doubled size below 2^32: doubling accepts a buffer of 8 + 7 × as many bytes, and writes that many nets
   pub doubled-size :
@@ -61,5 +67,12 @@ pub record NumbersSay : Type 0 where
       → answerCode firstFlowCode (runOf s st k rows outputs .answer) < 2 ^ 32
       → answerCode firstFlowCode (runOf s st k rows outputs .answer) % 65536 ≡ 65535
       → StaysClear s k (runOf s st k rows outputs) (runOf s st′ k rows′ outputs′)
+  -- a static run answers a number below 2^32 whose rest by 65,536 is 65,535: every run that fills its unknown bits is clear, and known values are its values
+  pub static-clear :
+      (s st st′ : List ℕ) (k : ℕ) (codes rows outputs outputs′ : List ℕ)
+      → FilledBy st st′ → FilledBy codes rows → length outputs ≡ length outputs′
+      → answerCode firstFlowCode (staticRunOf s st k codes outputs .answer) < 2 ^ 32
+      → answerCode firstFlowCode (staticRunOf s st k codes outputs .answer) % 65536 ≡ 65535
+      → ClearToo k (staticRunOf s st k codes outputs) (runOf s st′ k rows outputs′)
   -- power-up answers 0: the states with which the array may wake, whatever its registers without a start hold, differ from the one that it leaves at most in the values of marked registers
   pub powered-up : (s a st : List ℕ) → outcomeCode (powerUpOf s a .refusal) ≡ 0 → Wakes s st → SameMarks (powerUpOf s a .state) st

@@ -7,6 +7,7 @@ use codes::step_code;
 ghost use mathlib.Core.Path.{_≡_};
 ghost use Rattle.checking.specs.Check.{checkRefusal};
 ghost use Rattle.cycle.specs.Calls.{powerUpOf, stepOf, runOf};
+ghost use Rattle.static_run.specs.StaticCalls.{staticPowerUpOf, staticRunOf};
 ghost use Rattle.figures.specs.Figures.{doubledSizeOf};
 ghost use Rattle.doubling.specs.Doubling.{doubleOf};
 ghost use Rattle.codes.specs.Codes.{outcomeCode, verdictCode, firstFlowCode, answerCode, sizeCode, kindCode};
@@ -55,6 +56,33 @@ pub extern "C" fn tracker_run(
     ensures { λ r. ⌜ now (outputs .exit) ≡ runOf (now (image .entry)) (now (state .entry)) k (now (rows .entry)) (now (outputs .entry)) .outputs ⌝ }
 {
     let a = tracker::run(image, k, state, rows, outputs);
+    run_code(a)
+}
+
+// Sets each register to its start, or, where none is given, to an unknown untrusted bit.
+#[no_mangle]
+pub extern "C" fn tracker_static_power_up(image: &[u8], state: &mut [u8]) -> u64
+    ensures { λ r. ⌜ r ≡ outcomeCode (staticPowerUpOf (now (image .entry)) (now (state .entry)) .refusal) ⌝ }
+    ensures { λ r. ⌜ now (state .exit) ≡ staticPowerUpOf (now (image .entry)) (now (state .entry)) .state ⌝ }
+{
+    let o = static_run::static_power_up(image, state);
+    outcome_code(o)
+}
+
+// k clock cycles with unknown bits.
+#[no_mangle]
+pub extern "C" fn tracker_static_run(
+    image: &[u8],
+    k: usize,
+    state: &mut [u8],
+    rows: &[u8],
+    outputs: &mut [u8],
+) -> u64
+    ensures { λ r. ⌜ r ≡ answerCode firstFlowCode (staticRunOf (now (image .entry)) (now (state .entry)) k (now (rows .entry)) (now (outputs .entry)) .answer) ⌝ }
+    ensures { λ r. ⌜ now (state .exit) ≡ staticRunOf (now (image .entry)) (now (state .entry)) k (now (rows .entry)) (now (outputs .entry)) .state ⌝ }
+    ensures { λ r. ⌜ now (outputs .exit) ≡ staticRunOf (now (image .entry)) (now (state .entry)) k (now (rows .entry)) (now (outputs .entry)) .outputs ⌝ }
+{
+    let a = static_run::static_run(image, k, state, rows, outputs);
     run_code(a)
 }
 
