@@ -42,7 +42,7 @@ pub fn set_constants(image: &[u8], n: usize, nets: &mut [u8])
     }
 }
 
-// Net i takes its byte where it is a gate or OUT, and keeps the one that it has where not.
+// Net i takes its code where it is a gate or OUT, and keeps the one that it has where not. The width is a number in each call, so that the compiler works with it.
 fn settle(image: &[u8], t: &[u8], width: usize, i: usize, nets: &mut [u8])
     requires { ⌜ Tabled width (now t) ⌝ }
     requires { ⌜ (checkRefusal (now image) ≡ none) × (i < sizesOf (now image) .nets) × (length (now nets) ≡ 40960) × Both width (now nets) (sizesOf (now image) .nets) ⌝ }
@@ -58,43 +58,59 @@ fn settle(image: &[u8], t: &[u8], width: usize, i: usize, nets: &mut [u8])
     }
 }
 
-// The nets from `from` on, four to a turn, as long as there are four; the answer is the first that is left. There is no gate and no OUT
-// below `from`.
-fn settle_fours(image: &[u8], n: usize, t: &[u8], width: usize, from: usize, nets: &mut [u8]) -> usize
-    requires { ⌜ Tabled width (now t) ⌝ }
-    requires { ⌜ (checkRefusal (now image) ≡ none) × (n ≡ sizesOf (now image) .nets) × (length (now nets) ≡ 40960) × Both width (now nets) n ⌝ }
+// The nets from `from` on by the table of plain bytes, four to a turn, as long as there are four; the answer is the first that is left. There is no gate and
+// no OUT below `from`.
+fn settle_fours(image: &[u8], n: usize, t: &[u8], from: usize, nets: &mut [u8]) -> usize
+    requires { ⌜ Tabled 4 (now t) ⌝ }
+    requires { ⌜ (checkRefusal (now image) ≡ none) × (n ≡ sizesOf (now image) .nets) × (length (now nets) ≡ 40960) × Both 4 (now nets) n ⌝ }
     requires { ⌜ (from ≤ n) × ((i : ℕ) → i < from → kindAt (now image) i < NOT) ⌝ }
-    ensures { λ r. ⌜ (r ≤ n) × Settled width (now (image .entry)) (now (nets .entry)) (now (nets .exit)) r ⌝ }
+    ensures { λ r. ⌜ (r ≤ n) × Settled 4 (now (image .entry)) (now (nets .entry)) (now (nets .exit)) r ⌝ }
 {
     let mut i = from;
     while i + 3 < n {
-        settle(image, t, width, i, nets);
-        settle(image, t, width, i + 1, nets);
-        settle(image, t, width, i + 2, nets);
-        settle(image, t, width, i + 3, nets);
+        settle(image, t, 4, i, nets);
+        settle(image, t, 4, i + 1, nets);
+        settle(image, t, 4, i + 2, nets);
+        settle(image, t, 4, i + 3, nets);
         i += 4;
     }
     i
 }
 
-// All nets from `from` on, by a table of a width. There is no gate and no OUT below it. N is read here, ahead of the first store to the nets, so that the compiler
-// has it at hand for every operand that is read through the view.
-fn settle_all(image: &[u8], t: &[u8], width: usize, from: usize, nets: &mut [u8])
-    requires { ⌜ Tabled width (now t) ⌝ }
-    requires { ⌜ (checkRefusal (now image) ≡ none) × (length (now nets) ≡ 40960) × Both width (now nets) (sizesOf (now image) .nets) ⌝ }
+// All nets from `from` on, by the table of plain bytes. There is no gate and no OUT below it. N is read here, ahead of the first store to the nets, so that the
+// compiler has it at hand for every operand that is read through the view.
+fn settle_plain(image: &[u8], t: &[u8], from: usize, nets: &mut [u8])
+    requires { ⌜ Tabled 4 (now t) ⌝ }
+    requires { ⌜ (checkRefusal (now image) ≡ none) × (length (now nets) ≡ 40960) × Both 4 (now nets) (sizesOf (now image) .nets) ⌝ }
     requires { ⌜ (from ≤ sizesOf (now image) .nets) × ((i : ℕ) → i < from → kindAt (now image) i < NOT) ⌝ }
-    ensures { λ r. ⌜ Settled width (now (image .entry)) (now (nets .entry)) (now (nets .exit)) (sizesOf (now (image .entry)) .nets) ⌝ }
+    ensures { λ r. ⌜ Settled 4 (now (image .entry)) (now (nets .entry)) (now (nets .exit)) (sizesOf (now (image .entry)) .nets) ⌝ }
 {
     let z = sizes_of(image);
     let n = z.nets;
-    let mut i = settle_fours(image, n, t, width, from, nets);
+    let mut i = settle_fours(image, n, t, from, nets);
     while i < n {
-        settle(image, t, width, i, nets);
+        settle(image, t, 4, i, nets);
         i += 1;
     }
 }
 
-// The same, with the width as a number that the compiler sees, so that it has a loop for each.
+// The same by the table of codes with unknowns, net by net.
+fn settle_unknown(image: &[u8], t: &[u8], from: usize, nets: &mut [u8])
+    requires { ⌜ Tabled 8 (now t) ⌝ }
+    requires { ⌜ (checkRefusal (now image) ≡ none) × (length (now nets) ≡ 40960) × Both 8 (now nets) (sizesOf (now image) .nets) ⌝ }
+    requires { ⌜ (from ≤ sizesOf (now image) .nets) × ((i : ℕ) → i < from → kindAt (now image) i < NOT) ⌝ }
+    ensures { λ r. ⌜ Settled 8 (now (image .entry)) (now (nets .entry)) (now (nets .exit)) (sizesOf (now (image .entry)) .nets) ⌝ }
+{
+    let z = sizes_of(image);
+    let n = z.nets;
+    let mut i = from;
+    while i < n {
+        settle(image, t, 8, i, nets);
+        i += 1;
+    }
+}
+
+// All nets from `from` on, by a table of either width. There is no gate and no OUT below it.
 pub fn settle_nets(image: &[u8], t: &[u8], width: usize, from: usize, nets: &mut [u8])
     requires { ⌜ Tabled width (now t) ⌝ }
     requires { ⌜ (checkRefusal (now image) ≡ none) × (length (now nets) ≡ 40960) × Both width (now nets) (sizesOf (now image) .nets) ⌝ }
@@ -102,7 +118,7 @@ pub fn settle_nets(image: &[u8], t: &[u8], width: usize, from: usize, nets: &mut
     ensures { λ r. ⌜ Settled width (now (image .entry)) (now (nets .entry)) (now (nets .exit)) (sizesOf (now (image .entry)) .nets) ⌝ }
 {
     if width == 4 {
-        return settle_all(image, t, 4, from, nets);
+        return settle_plain(image, t, from, nets);
     }
-    settle_all(image, t, 8, from, nets);
+    settle_unknown(image, t, from, nets);
 }

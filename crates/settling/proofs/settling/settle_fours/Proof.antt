@@ -16,10 +16,10 @@ use Rattle.settling.proofs.settling.settle_fours.Statement.{statement}
 use Rattle.settling.proofs.settling.settle_fours.Tie as tie
 
 abbrev Inv-loop : tie.InvT-loop
-Inv-loop image n t width from nets₀ i₀ nets i = (i ≤ n) × Settled width image nets₀ nets i
+Inv-loop image n t from nets₀ i₀ nets i = (i ≤ n) × Settled 4 image nets₀ nets i
 
 abbrev μ-loop : tie.MeasureT-loop
-μ-loop image n t width from nets₀ i₀ nets i = n - i
+μ-loop image n t from nets₀ i₀ nets i = n - i
 
 loop-holds : tie.Need-loop-holds Inv-loop μ-loop
 loop-holds c = let pre = c .before .before .before .pre in (pre .1 .1 .0, settle-begins (rw (pre .1 .0 .1) at (pre .1 .0 .3)) (pre .1 .1 .1))
@@ -32,7 +32,7 @@ module _ (c : tie.Start Inv-loop μ-loop) where
   few : c .args .n ≤ 8192
   few = omega (arith, c .pre .1 .0 .1, checked .few-nets)
 
-  module _ {nets : List ℕ} {j : ℕ} (w : Settled (c .args .width) (c .args .image .now) (c .args .nets .now) nets j) (h : j < c .args .n) where
+  module _ {nets : List ℕ} {j : ℕ} (w : Settled 4 (c .args .image .now) (c .args .nets .now) nets j) (h : j < c .args .n) where
     abbrev N : ℕ
     N = sizesOf (c .args .image .now) .nets
 
@@ -42,10 +42,10 @@ module _ (c : tie.Start Inv-loop μ-loop) where
     size : length nets ≡ 40960
     size = w .size ∙ c .pre .1 .0 .2
 
-    asked : Tabled (c .args .width) (c .args .t .now) × ((checkRefusal (c .args .image .now) ≡ none) × (j < N) × (length nets ≡ 40960) × Both (c .args .width) nets N)
+    asked : Tabled 4 (c .args .t .now) × ((checkRefusal (c .args .image .now) ≡ none) × (j < N) × (length nets ≡ 40960) × Both 4 nets N)
     asked = (c .pre .0, (c .pre .1 .0 .0, below, size, w .both))
 
-    next : {exit : List ℕ} {k : ℕ} → exit ≡ settledAt (c .args .width) (c .args .image .now) j nets → k ≡ suc j → Settled (c .args .width) (c .args .image .now) (c .args .nets .now) exit k
+    next : {exit : List ℕ} {k : ℕ} → exit ≡ settledAt 4 (c .args .image .now) j nets → k ≡ suc j → Settled 4 (c .args .image .now) (c .args .nets .now) exit k
     next = settle-next checked below size w
 
 add-loop : tie.Need-add-loop Inv-loop μ-loop
@@ -60,7 +60,7 @@ module _ (c : tie.In-loop Inv-loop μ-loop) where
   i = c .before .loop .i
 
   abbrev After : List ℕ → ℕ → Type 0
-  After nets k = Settled (start .args .width) (start .args .image .now) (start .args .nets .now) nets (i + k)
+  After nets k = Settled 4 (start .args .image .now) (start .args .nets .now) nets (i + k)
 
   four : i + 3 < start .args .n
   four = c .loop-test .taken

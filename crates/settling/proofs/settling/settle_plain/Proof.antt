@@ -1,4 +1,4 @@
--- `settling::settling::settle_all` meets its contract. At net i, the gates and OUTs below it are settled.
+-- `settling::settling::settle_plain` meets its contract. At net i, the gates and OUTs below it are settled.
 use Prim.Native.Nat.{_≤_, _-_}
 use borrow.Author.Needs.{needs}
 use native.Mathlib.Numerals.{add-one}
@@ -10,14 +10,14 @@ use Rattle.image.specs.Image.{sizesOf}
 use Rattle.checking.proofs.Checked.{Checked, check-none}
 use Rattle.settling.specs.Settling.{Settled}
 use Rattle.settling.proofs.Gatewise.{settle-next, settled-at, settled-so-far, settled-then}
-use Rattle.settling.proofs.settling.settle_all.Statement.{statement}
-use Rattle.settling.proofs.settling.settle_all.Tie as tie
+use Rattle.settling.proofs.settling.settle_plain.Statement.{statement}
+use Rattle.settling.proofs.settling.settle_plain.Tie as tie
 
 abbrev Inv-loop : tie.InvT-loop
-Inv-loop image t width from nets₀ n i₀ nets i = (i ≤ n) × Settled width image nets₀ nets i
+Inv-loop image t from nets₀ n i₀ nets i = (i ≤ n) × Settled 4 image nets₀ nets i
 
 abbrev μ-loop : tie.MeasureT-loop
-μ-loop image t width from nets₀ n i₀ nets i = n - i
+μ-loop image t from nets₀ n i₀ nets i = n - i
 
 checked : (c : tie.Start Inv-loop μ-loop) → Checked (c .args .image .now)
 checked c = check-none _ .0 (c .pre .1 .0 .0)
@@ -50,7 +50,7 @@ module _ (c : tie.At-loop Inv-loop μ-loop) where
   abbrev sized : tie.After-sizes-of Inv-loop μ-loop
   sized = fours .before .before
 
-  all : Settled (entry sized .args .width) (entry sized .args .image .now) (entry sized .args .nets .now) (c .loop .nets) (c .loop .i)
+  all : Settled 4 (entry sized .args .image .now) (entry sized .args .nets .now) (c .loop .nets) (c .loop .i)
   all = settled-then (fours .settle-fours .ensures .1) (c .loop .inv .1)
 
   size : length (c .loop .nets) ≡ 40960
@@ -71,8 +71,8 @@ loop-again c =
     let below = turn .loop-test .taken in
     (omega arith, settle-next (checked (entry (sized at))) (rw (← nets-are (sized at)) below) (size at) (at .loop .inv .1) (settled .settle .ensures) (add-one (at .loop .i)))
 
-pub settle-all-spec : {M : Type 1} → statement M
-settle-all-spec =
+pub settle-plain-spec : {M : Type 1} → statement M
+settle-plain-spec =
     tie.close
     (tie.spec
     Inv-loop
