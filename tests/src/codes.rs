@@ -3,7 +3,7 @@
 
 use crate::bytes::{spoil_by, tracked};
 use crate::random::Random;
-use tracker::codes::{is_marked, value, UNKNOWN_TRUSTED, UNKNOWN_UNTRUSTED};
+use tracker::codes::{is_code, is_marked, value, UNKNOWN_TRUSTED, UNKNOWN_UNTRUSTED};
 
 /// Codes. The shares of marks and of unknown values are drawn for the whole list.
 pub fn draw(random: &mut Random, length: usize) -> Vec<u8> {
@@ -46,7 +46,8 @@ pub fn filled(random: &mut Random, codes: &[u8]) -> Vec<u8> {
 }
 
 /// The first index at which a code does not speak of a byte: it has another value,
-/// or the byte is marked and the code is not. The lists are equally long.
+/// or the byte is marked and the code is not, or it is no code. The lists are equally
+/// long.
 pub fn first_uncovered(codes: &[u8], bytes: &[u8]) -> Option<usize> {
     assert_eq!(codes.len(), bytes.len());
     (0..codes.len()).find(|index| !covers(codes[*index], bytes[*index]))
@@ -54,5 +55,5 @@ pub fn first_uncovered(codes: &[u8], bytes: &[u8]) -> Option<usize> {
 
 fn covers(code: u8, byte: u8) -> bool {
     let has_value = value(code).map_or(true, |known| known == byte % 2);
-    has_value && (is_marked(code) || !is_marked(byte))
+    is_code(code) && has_value && (is_marked(code) || !is_marked(byte))
 }

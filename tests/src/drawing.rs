@@ -100,7 +100,7 @@ pub fn put_fault(random: &mut Random, counts: &Counts, call: &mut Call, state_to
 /// Gives a run or a static run another k. The buffers stay as they were, or get the
 /// lengths that belong to this k, or those that belong to the product once its high
 /// bits are lost. They never get very long. Few long static runs get right lengths,
-/// since the reference takes its time for them.
+/// since the reference is slow at them.
 fn put_other_cycles(random: &mut Random, counts: &Counts, call: &mut Call) {
     call.k = match random.below(5) {
         0 => with_high_bits(random, call.k),

@@ -11,8 +11,11 @@ const LEAST_SEEN: u64 = 10;
 /// The calls in which a family must have inverted pins of all kinds, and images
 /// without any of all kinds, and how often.
 #[rustfmt::skip]
-const INVERTED: [(&str, &[Name], u64); 12] = [
-    ("exhaustive", &[Name::Check, Name::PowerUp, Name::Step, Name::Run, Name::Double], 100),
+const INVERTED: [(&str, &[Name], u64); 13] = [
+    ("exhaustive", &[
+        Name::Check, Name::PowerUp, Name::Step, Name::Run, Name::Double,
+        Name::StaticPowerUp, Name::StaticRun,
+    ], 100),
     ("four_nets", &[Name::Check, Name::Step, Name::Run, Name::Double], 1000),
     ("good", &[Name::Check, Name::PowerUp, Name::Step, Name::Run, Name::Double], 1000),
     ("large", &[Name::Check, Name::PowerUp, Name::Step, Name::Run, Name::Double], 50),
@@ -24,6 +27,7 @@ const INVERTED: [(&str, &[Name], u64); 12] = [
     ("pairing", &[Name::PowerUp, Name::Step, Name::Run, Name::Double], 1000),
     ("two_runs", &[Name::PowerUp, Name::Step, Name::Run, Name::Double], 1000),
     ("steps", &[Name::Step, Name::Run], 1000),
+    ("static_gates", &[Name::StaticRun], 1),
     ("static_runs", &[Name::StaticPowerUp, Name::StaticRun], 1000),
     ("filling", &[Name::StaticPowerUp, Name::StaticRun, Name::Run], 1000),
     ("known", &[Name::StaticPowerUp, Name::StaticRun], 1000),
@@ -80,21 +84,13 @@ fn enough(tally: &Tally) {
 fn enough_unknowns(unknowns: &Unknowns) {
     let names = [Name::StaticPowerUp, Name::StaticRun];
     for (name, numbers) in names.into_iter().zip(unknowns.numbers) {
-        for (number, seen) in numbers.into_iter().enumerate().skip(1) {
-            let least = if name.may_refuse(number as u64) {
-                LEAST_SEEN
-            } else {
-                0
-            };
-            assert!(seen >= least, "{name:?}, refusal {number}");
+        for number in (1..=18).filter(|number| name.may_refuse(*number)) {
+            let seen = numbers[number as usize];
+            assert!(seen >= LEAST_SEEN, "{name:?}, refusal {number}");
         }
     }
-    let eighteen = unknowns
-        .places
-        .concat()
-        .into_iter()
-        .chain(unknowns.bad.concat());
-    assert!(eighteen.min() >= Some(LEAST_SEEN));
+    let (places, bad) = (unknowns.places.concat(), unknowns.bad.concat());
+    assert!(places.into_iter().chain(bad).min() >= Some(LEAST_SEEN));
     for code in [0, 1, 2, 3, 4, 6] {
         let seen = unknowns.left.map(|counts| counts[code]);
         assert!(seen.into_iter().all(|seen| seen >= 10_000), "code {code}");

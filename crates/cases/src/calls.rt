@@ -39,6 +39,40 @@ fn gate(kind: usize, pins: &[u8]) {
     }
 }
 
+// The code of a gate with unknown pins, for the codes of the pins a, b and c.
+fn static_code(kind: usize, a: u8, b: u8, c: u8) {
+    if kind < 9 {
+        if a < 8 {
+            if b < 8 {
+                if c < 8 {
+                    let mux = unknowns::mux_codes();
+                    let pairs = unknowns::pair_codes();
+                    let code = unknowns::static_byte(
+                        &mux,
+                        &pairs,
+                        kind,
+                        a as usize,
+                        b as usize,
+                        c as usize,
+                    );
+                    return say_number(b"", code as usize);
+                }
+            }
+        }
+    }
+    say(b" [no such gate]");
+}
+
+// The codes of a gate with unknown pins, one triple after the other.
+fn static_gate(kind: usize, pins: &[u8]) {
+    say(b": ");
+    let mut i: usize = 0;
+    while i + 2 < pins.len() {
+        static_code(kind, pins[i], pins[i + 1], pins[i + 2]);
+        i += 3;
+    }
+}
+
 // Doubling: what is written, from net `from` on, or whether the buffer stayed as it was.
 fn double(image: &[u8], d: &mut [u8], from: usize) {
     let o = doubling::double(image, d);
@@ -57,6 +91,9 @@ fn answer(letter: u8, k: usize, image: &[u8], state: &mut [u8], rows: &[u8], buf
         b'P' => outcome(tracker::power_up(image, state)),
         b'S' => step_answer(tracker::step(image, state, rows, buffer)),
         b'R' => run_answer(tracker::run(image, k, state, rows, buffer)),
+        b'T' => static_gate(k, rows),
+        b'A' => outcome(static_run::static_power_up(image, state)),
+        b'U' => run_answer(static_run::static_run(image, k, state, rows, buffer)),
         b'D' => double(image, buffer, k),
         b'F' => doubled_size(figures::doubled_size(image)),
         _ => say(b" [no such call]"),
@@ -66,12 +103,12 @@ fn answer(letter: u8, k: usize, image: &[u8], state: &mut [u8], rows: &[u8], buf
 // The lent bytes after a call.
 fn lent(letter: u8, state: &[u8], buffer: &[u8]) {
     match letter {
-        b'P' | b'S' | b'R' => say_bytes(b", state", state),
+        b'P' | b'S' | b'R' | b'A' | b'U' => say_bytes(b", state", state),
         _ => {}
     }
     match letter {
         b'S' => say_bytes(b", nets", buffer),
-        b'R' => say_bytes(b", outputs", buffer),
+        b'R' | b'U' => say_bytes(b", outputs", buffer),
         _ => {}
     }
 }

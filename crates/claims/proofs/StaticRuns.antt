@@ -23,7 +23,7 @@ use Rattle.cycle.proofs.Calls.{either-way, power-up-accepted, power-up-refused,
 use Rattle.static_run.specs.StaticCalls.{static, staticStart, staticStarts, staticPowerUpRefusal, staticPowerUpOf, staticRunRefusal, staticRunOf}
 use Rattle.static_run.proofs.StaticRefused.{static-power-up-accepted, static-power-up-refused, static-accepted, static-refused}
 use Rattle.claims.specs.PowerUp.{Wakes}
-use Rattle.claims.specs.StaticRuns.{CoversCycle, SoundCycles, SoundRun, StaticSound, StaticWakes, Run, MatchedRuns, runs, SoundRuns, nil, cons, StaticRuns}
+use Rattle.claims.specs.StaticRuns.{CoversCycle, SoundCycles, SoundRun, StaticSound, StaticWakes, TwoRuns, AllCovered, no-more, one-more, SoundRuns, nil, cons, StaticRuns}
 use Rattle.claims.proofs.StaticCovered.{covers-kept, covers-judged, same-refusal, same-power-up}
 use Rattle.claims.proofs.Waking.{wakes-powered}
 
@@ -136,14 +136,14 @@ static-wakes s a a′ l =
     record { refusal = rw (p, q); state = λ k. not-some (rw q at k); wakes = λ k st w. not-some (rw q at k) })
 
 -- LISTS OF RUNS
-all-sound : (s : List ℕ) {st st′ : List ℕ} {rs qs : List Run} → CoversAll st st′ → Forall₂ MatchedRuns rs qs → SoundRuns s st st′ rs qs
-all-sound s p Forall₂·nil = nil
-all-sound s p (Forall₂·cons (runs {k} {b = b} {b′} q l) ms) = let h = sound-run s k b b′ p q l in cons h (all-sound s (h .state) ms)
+all-sound : (s : List ℕ) {st st′ : List ℕ} {rs : List TwoRuns} → CoversAll st st′ → AllCovered rs → SoundRuns s st st′ rs
+all-sound s p no-more = nil
+all-sound s p (one-more {r} q l more) = let h = sound-run s (r .k) (r .outputs) (r .outputs′) p q l in cons h (all-sound s (h .state) more)
 
 pub static-runs : StaticRuns
-static-runs s rs qs ms =
+static-runs s rs all =
     record {
-      covered = λ st st′ p. all-sound s p ms;
-      from-power-up = λ a a′ l h. all-sound s (static-wakes s a a′ l .state h) ms;
-      from-wakes = λ a st h w. all-sound s (static-wakes s a a refl .wakes h st w) ms;
+      covered = λ st st′ p. all-sound s p all;
+      from-power-up = λ a a′ l h. all-sound s (static-wakes s a a′ l .state h) all;
+      from-wakes = λ a st h w. all-sound s (static-wakes s a a refl .wakes h st w) all;
     }

@@ -51,36 +51,37 @@ pub record SoundPowerUp (s a a′ : List ℕ) : Type 0 where
 abbrev pub StaticWakes : Type 0
 StaticWakes = (s a a′ : List ℕ) → length a ≡ length a′ → SoundPowerUp s a a′
 
--- LISTS OF RUNS, each taking the state that the last one left. A run, with its rows and the buffer that it is lent
-pub record Run : Type 0 where
+-- LISTS OF RUNS, each taking the state that the last one left. A static run and a concrete one, of equally many cycles, each with its rows and the buffer that it is lent
+pub record TwoRuns : Type 0 where
   pub k : ℕ
+  pub codes : List ℕ
   pub rows : List ℕ
   pub outputs : List ℕ
+  pub outputs′ : List ℕ
 
--- what may stand at one place of a static and a concrete list
-pub data MatchedRuns : Run → Run → Type 0 where
-  runs :
-      {k : ℕ} {codes rows b b′ : List ℕ} → CoversAll codes rows → length b ≡ length b′
-      → MatchedRuns (record { k = k; rows = codes; outputs = b }) (record { k = k; rows = rows; outputs = b′ })
+-- the codes cover the rows, and the buffers are equally long
+pub data AllCovered : List TwoRuns → Type 0 where
+  no-more : AllCovered []
+  one-more : {r : TwoRuns} {rs : List TwoRuns} → CoversAll (r .codes) (r .rows) → length (r .outputs) ≡ length (r .outputs′) → AllCovered rs → AllCovered (r ∷ rs)
 
--- at every place, each list with its own state
-pub data SoundRuns (s : List ℕ) : (st st′ : List ℕ) → List Run → List Run → Type 0 where
-  nil : {st st′ : List ℕ} → SoundRuns s st st′ [] []
+-- at every place, both from the states that those before left
+pub data SoundRuns (s : List ℕ) : (st st′ : List ℕ) → List TwoRuns → Type 0 where
+  nil : {st st′ : List ℕ} → SoundRuns s st st′ []
   cons :
-      {st st′ : List ℕ} {k : ℕ} {codes rows b b′ : List ℕ} {rs qs : List Run} → SoundRun s st st′ k codes rows b b′
-      → SoundRuns s (staticRunOf s st k codes b .state) (runOf s st′ k rows b′ .state) rs qs
-      → SoundRuns s st st′ (record { k = k; rows = codes; outputs = b } ∷ rs) (record { k = k; rows = rows; outputs = b′ } ∷ qs)
+      {st st′ : List ℕ} {r : TwoRuns} {rs : List TwoRuns} → SoundRun s st st′ (r .k) (r .codes) (r .rows) (r .outputs) (r .outputs′)
+      → SoundRuns s (staticRunOf s st (r .k) (r .codes) (r .outputs) .state) (runOf s st′ (r .k) (r .rows) (r .outputs′) .state) rs
+      → SoundRuns s st st′ (r ∷ rs)
 
 -- from covered states, and from power-up: against a power-up of the array, and against every state with which it may wake
-pub record RunsSound (s : List ℕ) (rs qs : List Run) : Type 0 where
-  pub covered : (st st′ : List ℕ) → CoversAll st st′ → SoundRuns s st st′ rs qs
+pub record RunsSound (s : List ℕ) (rs : List TwoRuns) : Type 0 where
+  pub covered : (st st′ : List ℕ) → CoversAll st st′ → SoundRuns s st st′ rs
   pub from-power-up :
       (a a′ : List ℕ) → length a ≡ length a′ → powerUpOf s a′ .refusal ≡ none
-      → SoundRuns s (staticPowerUpOf s a .state) (powerUpOf s a′ .state) rs qs
+      → SoundRuns s (staticPowerUpOf s a .state) (powerUpOf s a′ .state) rs
   pub from-wakes :
       (a st : List ℕ) → powerUpOf s a .refusal ≡ none → Wakes s st
-      → SoundRuns s (staticPowerUpOf s a .state) st rs qs
+      → SoundRuns s (staticPowerUpOf s a .state) st rs
 
 -- proved as `static-runs`
 abbrev pub StaticRuns : Type 0
-StaticRuns = (s : List ℕ) (rs qs : List Run) → Forall₂ MatchedRuns rs qs → RunsSound s rs qs
+StaticRuns = (s : List ℕ) (rs : List TwoRuns) → AllCovered rs → RunsSound s rs

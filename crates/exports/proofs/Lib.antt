@@ -3,3 +3,4 @@ pub mod Held
 pub mod HeldDoubling
 pub mod HeldRuns
 pub mod HeldBefore
+pub mod HeldStatic

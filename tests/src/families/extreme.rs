@@ -17,8 +17,8 @@ const END: u16 = MOST_NETS as u16;
 
 pub const CASES: u64 = 9;
 
-/// Cases without gates and inverted pins, which are run statically too. At most of the
-/// others the reference would take its time.
+/// Cases without gates and inverted pins, which are run statically too. The reference
+/// is slow at gates and inverted pins on codes.
 const STATIC: [u64; 3] = [0, 2, 6];
 
 pub fn run(case: &mut Case) -> Outcome {

@@ -75,7 +75,7 @@ fn runs(
     })
 }
 
-/// What a static run says and what does not hold of a run that fills its unknowns.
+/// What a static run says of a run that fills its unknowns, but does not hold.
 ///
 /// A first flow is the smaller, the earlier its cycle and the lower its net, and a
 /// clear answer is larger than all flows. So a run that fills the unknowns of a
@@ -88,9 +88,9 @@ fn uncovered(run: &Call, answer: u64, beside: &Call, concrete: u64) -> Option<St
     }
     if let Some(index) = first_uncovered(&run.filled, &beside.filled) {
         let code = run.filled[index];
-        return Some(format!("output byte {index} is one of the code {code}"));
+        return Some(format!("output byte {index} is as the code {code} says"));
     }
     let index = first_uncovered(&run.state, &beside.state)?;
     let code = run.state[index];
-    Some(format!("state byte {index} is one of the code {code}"))
+    Some(format!("state byte {index} is as the code {code} says"))
 }

@@ -12,7 +12,7 @@ use crate::failure::Outcome;
 use crate::netlists;
 use tracker::encode;
 
-/// The calls of a case that are static, in one of five cases, and those of the others.
+/// The calls of one case in five, which are static, and those of the others.
 const STATIC: &[Name] = &[Name::StaticPowerUp, Name::StaticRun];
 const OTHERS: &[Name] = &[Name::PowerUp, Name::Step, Name::Run, Name::Double];
 

@@ -18,10 +18,10 @@ const RIGHT: Rules = Rules {
 /// All rules of static runs, each with one that is wrong.
 #[rustfmt::skip]
 pub const STATIC_RULES: [Rules; 10] = [
-    Rules { gate: |kind, _, codes| joined(&results(kind, codes.map(only_0_for_4))), ..RIGHT },
-    Rules { gate: |kind, _, codes| joined(&results(kind, codes.map(only_2_for_6))), ..RIGHT },
-    Rules { gate: |kind, _, codes| marked_if(all_marked, &results(kind, codes.map(fillings))), ..RIGHT },
-    Rules { gate: |kind, _, codes| marked_if(first_marked, &results(kind, codes.map(fillings))), ..RIGHT },
+    Rules { gate: |kind, _, codes| joined(any, &results(kind, codes.map(only_0_for_4))), ..RIGHT },
+    Rules { gate: |kind, _, codes| joined(any, &results(kind, codes.map(only_2_for_6))), ..RIGHT },
+    Rules { gate: |kind, _, codes| joined(all, &results(kind, codes.map(fillings))), ..RIGHT },
+    Rules { gate: |kind, _, codes| joined(first, &results(kind, codes.map(fillings))), ..RIGHT },
     Rules { gate: composed_mux, ..RIGHT },
     Rules { gate: nets_filled, ..RIGHT },
     Rules { gate: unknown_by_any_pin, ..RIGHT },
@@ -111,25 +111,26 @@ fn all_fillings([all_a, all_b, all_c]: [&[u8]; 3]) -> Vec<[u8; 3]> {
     all
 }
 
-/// The code of bytes, of which any marks it.
-fn joined(bytes: &[u8]) -> u8 {
-    marked_if(|bytes| bytes.iter().any(|byte| is_marked(*byte)), bytes)
-}
-
 /// The code of bytes, with a rule for its mark.
-fn marked_if(rule: fn(&[u8]) -> bool, bytes: &[u8]) -> u8 {
-    let mark = 2 * u8::from(rule(bytes));
-    match bytes.iter().all(|byte| byte % 2 == bytes[0] % 2) {
-        true => bytes[0] % 2 + mark,
-        false => UNKNOWN_TRUSTED + mark,
+fn joined(marked: fn(&[u8]) -> bool, bytes: &[u8]) -> u8 {
+    let mark = 2 * u8::from(marked(bytes));
+    if bytes.iter().all(|byte| byte % 2 == bytes[0] % 2) {
+        bytes[0] % 2 + mark
+    } else {
+        UNKNOWN_TRUSTED + mark
     }
 }
 
-fn all_marked(bytes: &[u8]) -> bool {
+/// Any of the bytes is marked, which is the right rule.
+fn any(bytes: &[u8]) -> bool {
+    bytes.iter().any(|byte| is_marked(*byte))
+}
+
+fn all(bytes: &[u8]) -> bool {
     bytes.iter().all(|byte| is_marked(*byte))
 }
 
-fn first_marked(bytes: &[u8]) -> bool {
+fn first(bytes: &[u8]) -> bool {
     is_marked(bytes[0])
 }
 
@@ -156,7 +157,7 @@ fn nets_filled(kind: u8, operands: [u16; 3], codes: [u8; 3]) -> u8 {
     };
     let all = all_fillings(codes.map(fillings)).into_iter().filter(agree);
     let results: Vec<u8> = all.map(|bytes| right(kind, operands, bytes)).collect();
-    joined(&results)
+    joined(any, &results)
 }
 
 fn unknown_by_any_pin(kind: u8, operands: [u16; 3], codes: [u8; 3]) -> u8 {

@@ -1,0 +1,130 @@
+-- The promises about static runs, used by their parts, as in Held.
+use Prim.Native.Nat.{ℕ, _/_, _%_, _≤_, _<_}
+use native.Mathlib.Omega.{arith}
+use mathlib.Core.Logic.{_↔_}
+use mathlib.Core.Path.{_≡_, refl}
+use mathlib.Core.List.{List, [], _∷_, List·Memᴰ, List·Memᴰ·head, List·Memᴰ·tail, Forall₂, Forall₂·nil, Forall₂·cons}
+use mathlib.Core.Option.{none}
+use mathlib.Core.Bool.{true, false}
+use lib.Dec.{lit≤, lit<}
+use lib.ListN.{length, getD}
+use Rattle.gates.specs.Kinds.{REG}
+use Rattle.gates.specs.Rules.{value, mark, gateByte}
+use Rattle.unknowns.specs.Filling.{isCode, known, fillings, staticByte}
+use Rattle.unknowns.specs.Covering.{Covers, CoversAll}
+use Rattle.unknowns.specs.Exactness.{SaysNoMore}
+use Rattle.image.specs.Image.{sizesOf, netsOf}
+use Rattle.checking.specs.Check.{checkRefusal}
+use Rattle.cycle.specs.Cycle.{clear, plain, Cycle, cyclesOf}
+use Rattle.cycle.specs.Calls.{done, powerUpOf, Ran, runRefusal, runOf}
+use Rattle.static_run.specs.StaticCalls.{static, staticPowerUpOf, staticRunRefusal, staticRunOf}
+use Rattle.claims.specs.Accepted.{NoneAbove3}
+use Rattle.claims.specs.NetBytes.{netOf, Counted}
+use Rattle.claims.specs.PowerUp.{Wakes}
+use Rattle.claims.specs.InBytes.{clearAfter}
+use Rattle.claims.specs.StaticRuns.{CoversCycle, SoundRun, TwoRuns, no-more, one-more, SoundRuns}
+use Rattle.claims.specs.StaticBytes.{FilledBy, ToldBy, ClearToo}
+use Rattle.claims.specs.StaticPlain.{NoStart2}
+use Rattle.claims.proofs.Promised.{promised}
+
+-- A CODE covers what it is filled with: 4 either trusted bit, 6 any byte, and every other code itself. So nothing can be taken from the relation
+made : (code byte : ℕ) → isCode code ≡ true → (known code ≡ true → value byte ≡ value code) → (mark byte ≡ true → mark code ≡ true) → byte ≤ 3 → Covers code byte
+made code byte e v m s = record { exists = e; values = v; marks = m; small = s }
+
+parts : {code byte : ℕ} → Covers code byte → (isCode code ≡ true) × (known code ≡ true → value byte ≡ value code) × (mark byte ≡ true → mark code ≡ true) × (byte ≤ 3)
+parts c = (c .exists, c .values, c .marks, c .small)
+
+-- ONE RUN
+same-refusal : (s st st′ : List ℕ) (k : ℕ) (codes rows b b′ : List ℕ) → CoversAll st st′ → CoversAll codes rows → length b ≡ length b′
+    → staticRunRefusal s st k codes b ≡ runRefusal s st′ k rows b′
+same-refusal s st st′ k codes rows b b′ p q l = promised .static-sound s st st′ k codes rows b b′ p q l .refusal
+
+state-covered : (s st st′ : List ℕ) (k : ℕ) (codes rows b b′ : List ℕ) → CoversAll st st′ → CoversAll codes rows → length b ≡ length b′
+    → CoversAll (staticRunOf s st k codes b .state) (runOf s st′ k rows b′ .state)
+state-covered s st st′ k codes rows b b′ p q l = promised .static-sound s st st′ k codes rows b b′ p q l .state
+
+each-cycle : {c d : Cycle} → CoversCycle c d
+    → CoversAll (c .bytes) (d .bytes) × (c .verdict ≡ clear → d .verdict ≡ clear) × CoversAll (c .outputs) (d .outputs) × CoversAll (c .state) (d .state)
+each-cycle h = (h .nets, h .verdict, h .outputs, h .state)
+
+accepted-run : (s st st′ : List ℕ) (k : ℕ) (codes rows b b′ : List ℕ) → CoversAll st st′ → CoversAll codes rows → length b ≡ length b′
+    → staticRunRefusal s st k codes b ≡ none
+    → Forall₂ CoversCycle (cyclesOf static (netsOf s) (sizesOf s .inputs) k codes st) (cyclesOf plain (netsOf s) (sizesOf s .inputs) k rows st′)
+    × CoversAll (staticRunOf s st k codes b .outputs) (runOf s st′ k rows b′ .outputs)
+    × (staticRunOf s st k codes b .answer ≡ clearAfter k → runOf s st′ k rows b′ .answer ≡ clearAfter k)
+accepted-run s st st′ k codes rows b b′ p q l h =
+    let a = promised .static-sound s st st′ k codes rows b b′ p q l .accepted h in
+    (a .cycles, a .outputs, a .clears)
+
+-- in bytes alone: what it asks for can be made, and what it gives is used
+filled : (codes bytes : List ℕ) → length codes ≡ length bytes → ((i : ℕ) → i < length codes → (getD codes i 0 ≡ 5 → ⊥) × (getD codes i 0 ≤ 6))
+    → ((i : ℕ) → i < length codes → getD codes i 0 ≤ 3 → getD bytes i 0 ≡ getD codes i 0)
+    → ((i : ℕ) → i < length codes → getD codes i 0 ≡ 4 → getD bytes i 0 ≤ 1)
+    → ((i : ℕ) → i < length codes → getD codes i 0 ≡ 6 → (2 ≤ getD bytes i 0) × (getD bytes i 0 ≤ 3)) → FilledBy codes bytes
+filled codes bytes l c k u t = record { size = l; codes-are = c; known = k; unknown = u; untrusted = t }
+
+told : {codes bytes : List ℕ} → ToldBy codes bytes → (length codes ≡ length bytes)
+    × ((i : ℕ) → i < length codes → getD codes i 0 ≤ 3 → getD bytes i 0 % 2 ≡ getD codes i 0 % 2)
+    × ((i : ℕ) → i < length codes → getD codes i 0 / 2 % 2 ≡ 0 → getD bytes i 0 / 2 ≡ 0)
+told t = (t .size, t .values, t .marks)
+
+clear-too : (s st st′ : List ℕ) (k : ℕ) (codes rows b b′ : List ℕ) → FilledBy st st′ → FilledBy codes rows → length b ≡ length b′
+    → staticRunOf s st k codes b .answer ≡ clearAfter k
+    → (runOf s st′ k rows b′ .answer ≡ clearAfter k)
+    × ToldBy (staticRunOf s st k codes b .outputs) (runOf s st′ k rows b′ .outputs) × ToldBy (staticRunOf s st k codes b .state) (runOf s st′ k rows b′ .state)
+clear-too s st st′ k codes rows b b′ p q l h = let c = promised .static-clear s st st′ k codes rows b b′ p q l h in (c .answer, c .outputs, c .state)
+
+-- POWER-UP
+woken : (s a a′ st : List ℕ) → length a ≡ length a′ → powerUpOf s a′ .refusal ≡ none → Wakes s st
+    → (staticPowerUpOf s a .refusal ≡ powerUpOf s a′ .refusal) × CoversAll (staticPowerUpOf s a .state) (powerUpOf s a′ .state) × CoversAll (staticPowerUpOf s a .state) st
+woken s a a′ st l h w = let p = promised .static-wakes s a a′ l in (p .refusal, p .state h, p .wakes h st w)
+
+wakes-6 : (s st : List ℕ) → checkRefusal s ≡ none → length st ≡ sizesOf s .registers → (i : ℕ) → i < sizesOf s .nets → netOf s i .kind ≡ REG → netOf s i .b ≡ 2
+    → Counted REG s i (staticPowerUpOf s st .state) 6
+wakes-6 s st h l = promised .static-starts s st h l .none-given
+
+others-start : (s st : List ℕ) → checkRefusal s ≡ none → length st ≡ sizesOf s .registers → (i : ℕ) → i < sizesOf s .nets → netOf s i .kind ≡ REG
+    → (staticPowerUpOf s st .refusal ≡ none) × (length (staticPowerUpOf s st .state) ≡ sizesOf s .registers)
+    × (netOf s i .b ≡ 0 → Counted REG s i (staticPowerUpOf s st .state) 0) × (netOf s i .b ≡ 1 → Counted REG s i (staticPowerUpOf s st .state) 1)
+others-start s st h l i m k = let p = promised .static-starts s st h l in (p .done, p .size, p .start-0 i m k, p .start-1 i m k)
+
+-- LISTS OF RUNS: of two, the second is sound from the states that the first left
+second-run : {s st st′ : List ℕ} {r q : TwoRuns} → SoundRuns s st st′ (r ∷ q ∷ [])
+    → SoundRun s (staticRunOf s st (r .k) (r .codes) (r .outputs) .state) (runOf s st′ (r .k) (r .rows) (r .outputs′) .state) (q .k) (q .codes) (q .rows) (q .outputs) (q .outputs′)
+second-run (SoundRuns.cons p (SoundRuns.cons q more)) = q
+
+-- a list of one, from power-up, from a state with which the array wakes, and from a covered state
+one-run : (s a a′ st st′ : List ℕ) (r : TwoRuns) → CoversAll (r .codes) (r .rows) → length (r .outputs) ≡ length (r .outputs′) → length a ≡ length a′
+    → powerUpOf s a′ .refusal ≡ none → Wakes s st → CoversAll st′ st
+    → SoundRuns s (staticPowerUpOf s a .state) (powerUpOf s a′ .state) (r ∷ []) × SoundRuns s (staticPowerUpOf s a′ .state) st (r ∷ []) × SoundRuns s st′ st (r ∷ [])
+one-run s a a′ st st′ r q l m h w p =
+    let all = promised .static-runs s (r ∷ []) (one-more q l no-more) in
+    (all .from-power-up a a′ m h, all .from-wakes a′ st h w, all .covered st′ st p)
+
+-- WITHOUT UNKNOWNS
+plain-calls : (s : List ℕ) → NoStart2 s → (st : List ℕ) (k : ℕ) (rows outputs : List ℕ) → NoneAbove3 rows → NoneAbove3 st
+    → (staticPowerUpOf s st ≡ powerUpOf s st) × (staticRunOf s st k rows outputs ≡ runOf s st k rows outputs)
+plain-calls s n st k rows outputs p q = let c = promised .static-plain s in (c .power-up n st, c .run st k rows outputs p q)
+
+plain-cycles : (s : List ℕ) → checkRefusal s ≡ none → (k : ℕ) (rows st : List ℕ) → NoneAbove3 rows → NoneAbove3 st
+    → cyclesOf static (netsOf s) (sizesOf s .inputs) k rows st ≡ cyclesOf plain (netsOf s) (sizesOf s .inputs) k rows st
+plain-cycles s = promised .static-plain s .cycles
+
+-- AT A GATE
+says-most : (kind a b c x : ℕ) → isCode a ≡ true → isCode b ≡ true → isCode c ≡ true
+    → ((p q r : ℕ) → List·Memᴰ p (fillings a) → List·Memᴰ q (fillings b) → List·Memᴰ r (fillings c) → Covers x (gateByte kind p q r))
+    → (known x ≡ true → (known (staticByte kind a b c) ≡ true) × (value (staticByte kind a b c) ≡ value x)) × (mark (staticByte kind a b c) ≡ true → mark x ≡ true)
+says-most kind a b c x ha hb hc h = let m = promised .static-exact kind a b c ha hb hc .least x h in (m .values, m .marks)
+
+covers-all : (kind a b c p q r : ℕ) → isCode a ≡ true → isCode b ≡ true → isCode c ≡ true → List·Memᴰ p (fillings a) → List·Memᴰ q (fillings b) → List·Memᴰ r (fillings c)
+    → Covers (staticByte kind a b c) (gateByte kind p q r)
+covers-all kind a b c p q r ha hb hc = promised .static-exact kind a b c ha hb hc .covers p q r
+
+-- an unknown bit is filled both ways, and a known one is not
+both-ways : List·Memᴰ 0 (fillings 4) × List·Memᴰ 1 (fillings 4) × List·Memᴰ 2 (fillings 6) × List·Memᴰ 3 (fillings 6)
+unfolding fillings
+both-ways = (List·Memᴰ·head refl, List·Memᴰ·tail (List·Memᴰ·head refl), List·Memᴰ·head refl, List·Memᴰ·tail (List·Memᴰ·head refl))
+
+one-way : (fillings 0 ≡ 0 ∷ []) × (fillings 1 ≡ 1 ∷ []) × (fillings 2 ≡ 2 ∷ []) × (fillings 3 ≡ 3 ∷ [])
+unfolding fillings
+one-way = (refl, refl, refl, refl)
