@@ -44,8 +44,8 @@ pub fn inverse(width: usize, x: u8) -> u8
     if width == 4 {
         return inverted_if(x, 1);
     }
-    if x < 4 {
-        return inverted_if(x, 1);
+    if 3 < x {
+        return x;
     }
-    x
+    inverted_if(x, 1)
 }

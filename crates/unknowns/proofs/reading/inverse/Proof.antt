@@ -18,6 +18,6 @@ inverse-spec =
     (tie.spec
     inverted-if-requires
     returns
-    (λ c κs. (c .if2 .taken, lit< tt))
-    (λ c. c .inverted-if2 .ensures ∙ not-low _ _ (c .before .if2 .taken))
-    (λ c. sym (not-unknown _ _ (c .before .if1 .left) (c .before .before .pre) (c .if2 .left))))
+    (λ c. sym (not-unknown _ _ (c .before .if1 .left) (c .before .before .pre) (omega (arith, c .if2 .taken))))
+    (λ c κs. (omega (arith, c .if2 .left), lit< tt))
+    (λ c. c .inverted-if2 .ensures ∙ not-low _ _ (omega (arith, c .before .if2 .left))))
