@@ -1,8 +1,9 @@
-// The cycles of a run, by a table of codes and by lists that are made once. The bytes of the nets stand with their inverses in one local array: of n nets in the first n places and
+// The cycles of a run, by lists that are made once. The bytes of the nets stand with their inverses in one local array: of n nets in the first n places and
 // in the n places from 32,768 on.
 use cycle::FirstFlow;
 use cycle::RunAnswer;
 use cycle::Verdict;
+use gates::table;
 use image::sizes_of;
 use lists::Parts;
 use lists::clock_listed;
@@ -12,11 +13,13 @@ use lists::put_bytes;
 use lists::take_bytes;
 use settling::set_constants;
 use settling::settle_nets;
+use unknowns::wide_table_for;
 ghost use mathlib.Core.Path.{_≡_};
+ghost use mathlib.Core.Logic.{_⊎_};
 ghost use mathlib.Core.Option.{none};
 ghost use lib.ListN.{length, take};
 ghost use Prim.Native.Nat.{_*_, _≤_};
-ghost use Rattle.unknowns.specs.Widths.{ruleBy, Tabled};
+ghost use Rattle.unknowns.specs.Widths.{ruleBy, Tables};
 ghost use Rattle.image.specs.Image.{sizesOf, netsOf};
 ghost use Rattle.cycle.specs.Answers.{verdictIn, firstFlowIn, ran};
 ghost use Rattle.cycle.specs.Cycle.{bytesOf, cycleOf, cyclesOf, firstOf};
@@ -29,14 +32,15 @@ ghost use Rattle.run_cycles.specs.Taking.{rulesBy, Takes};
 fn work_out_listed(
     image: &[u8],
     p: Parts,
-    t: &[u8],
+    plain: &[u8],
+    wide: &[u8],
     width: usize,
     list: &[u16],
     row: &[u8],
     state: &[u8],
     nets: &mut [u8],
 )
-    requires { ⌜ Tabled width (now t) ⌝ }
+    requires { ⌜ Tables width (now plain) (now wide) ⌝ }
     requires { ⌜ (length (now nets) ≡ 40960) × Takes width (now image) (now state) (sizesOf (now image) .inputs) (now row) ⌝ }
     requires { ⌜ Found (now image) p (now list) × Prepared width (now image) (now nets) (sizesOf (now image) .nets) ⌝ }
     ensures { λ r. ⌜ take (sizesOf (now (image .entry)) .nets) (now (nets .exit)) ≡ bytesOf (ruleBy width) (netsOf (now (image .entry))) (now (row .entry)) (now (state .entry)) ⌝ }
@@ -48,7 +52,7 @@ fn work_out_listed(
     let regs = &list[regs_at..outs_at];
     put_bytes(width, ins, row, nets);
     put_bytes(width, regs, state, nets);
-    settle_nets(image, t, width, p.from, nets);
+    settle_nets(image, plain, wide, width, p.from, nets);
 }
 
 // Cycle c of a run: all nets are worked out, then the verdict is given, unless an earlier cycle had a flow; the outputs are written, and
@@ -56,7 +60,8 @@ fn work_out_listed(
 fn cycle(
     image: &[u8],
     p: Parts,
-    t: &[u8],
+    plain: &[u8],
+    wide: &[u8],
     width: usize,
     list: &[u16],
     protected: &[u16],
@@ -67,7 +72,7 @@ fn cycle(
     nets: &mut [u8],
     outputs: &mut [u8],
 ) -> FirstFlow
-    requires { ⌜ Tabled width (now t) ⌝ }
+    requires { ⌜ Tables width (now plain) (now wide) ⌝ }
     requires { ⌜ (length (now nets) ≡ 40960) × Takes width (now image) (now state) (sizesOf (now image) .inputs) (now row) ⌝ }
     requires { ⌜ Found (now image) p (now list) × Watched (now image) p (now protected) ⌝ }
     requires { ⌜ Prepared width (now image) (now nets) (sizesOf (now image) .nets) × (length (now outputs) ≡ sizesOf (now image) .outputs) ⌝ }
@@ -78,7 +83,7 @@ fn cycle(
     ensures { λ r. ⌜ now (state .exit) ≡ cycleOf (rulesBy width) (netsOf (now (image .entry))) (now (row .entry)) (now (state .entry)) .state ⌝ }
     ensures { λ r. ⌜ Prepared width (now (image .entry)) (now (nets .exit)) (sizesOf (now (image .entry)) .nets) ⌝ }
 {
-    work_out_listed(image, p, t, width, list, row, state, nets);
+    work_out_listed(image, p, plain, wide, width, list, row, state, nets);
     let regs_at = p.regs;
     let outs_at = p.outs;
     let end = p.end;
@@ -91,17 +96,16 @@ fn cycle(
     first
 }
 
-// The k cycles of an accepted run by a table of a width, each on its own part of the rows and of the outputs.
+// The k cycles of an accepted run, by the table of that width, each on its own part of the rows and of the outputs.
 pub fn cycles(
     image: &[u8],
-    t: &[u8],
     width: usize,
     k: usize,
     state: &mut [u8],
     rows: &[u8],
     outputs: &mut [u8],
 ) -> FirstFlow
-    requires { ⌜ Tabled width (now t) ⌝ }
+    requires { ⌜ (width ≡ 4) ⊎ (width ≡ 8) ⌝ }
     requires { ⌜ Takes width (now image) (now state) (k * sizesOf (now image) .inputs) (now rows) ⌝ }
     requires { ⌜ (k ≤ 4096) × (length (now outputs) ≡ k * sizesOf (now image) .outputs) ⌝ }
     ensures { λ r. ⌜ ran (RunAnswer.Done r) (now (state .exit)) (now (outputs .exit))
@@ -109,6 +113,8 @@ pub fn cycles(
 {
     let z = sizes_of(image);
     let n = z.nets;
+    let plain = table();
+    let wide = wide_table_for(width);
     let mut list = [0u16; 8192];
     let mut protected = [0u16; 8192];
     let mut nets = [0u8; 40960];
@@ -127,7 +133,8 @@ pub fn cycles(
         let next = cycle(
             image,
             p,
-            t,
+            &plain,
+            &wide,
             width,
             &list,
             &protected,

@@ -18,7 +18,7 @@ ghost use Rattle.gates.specs.Kinds.{CONST, NOT};
 ghost use Rattle.image.specs.Image.{sizesOf, kindAt};
 ghost use Rattle.checking.specs.Check.{checkRefusal};
 ghost use Rattle.inverses.specs.Inverses.{Both};
-ghost use Rattle.unknowns.specs.Widths.{Tabled};
+ghost use Rattle.unknowns.specs.Widths.{Tabled, Tables};
 ghost use Rattle.settling.specs.Settling.{settledAt, Settled, Prepared};
 
 // The byte of a net before the first cycle, by its kind and operand a: a CONST's own, and 0 for the others. No branch on the kind.
@@ -110,15 +110,22 @@ fn settle_unknown(image: &[u8], t: &[u8], from: usize, nets: &mut [u8])
     }
 }
 
-// All nets from `from` on, by a table of either width. There is no gate and no OUT below it.
-pub fn settle_nets(image: &[u8], t: &[u8], width: usize, from: usize, nets: &mut [u8])
-    requires { ⌜ Tabled width (now t) ⌝ }
+// All nets from `from` on, by the table of that width. There is no gate and no OUT below it.
+pub fn settle_nets(
+    image: &[u8],
+    plain: &[u8],
+    wide: &[u8],
+    width: usize,
+    from: usize,
+    nets: &mut [u8],
+)
+    requires { ⌜ Tables width (now plain) (now wide) ⌝ }
     requires { ⌜ (checkRefusal (now image) ≡ none) × (length (now nets) ≡ 40960) × Both width (now nets) (sizesOf (now image) .nets) ⌝ }
     requires { ⌜ (from ≤ sizesOf (now image) .nets) × ((i : ℕ) → i < from → kindAt (now image) i < NOT) ⌝ }
     ensures { λ r. ⌜ Settled width (now (image .entry)) (now (nets .entry)) (now (nets .exit)) (sizesOf (now (image .entry)) .nets) ⌝ }
 {
     if width == 4 {
-        return settle_plain(image, t, from, nets);
+        return settle_plain(image, plain, from, nets);
     }
-    settle_unknown(image, t, from, nets);
+    settle_unknown(image, wide, from, nets);
 }

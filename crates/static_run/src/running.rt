@@ -3,7 +3,6 @@ use crate::refusing::static_run_refusal;
 use cycle::RunAnswer;
 use refusals::Outcome;
 use run_cycles::cycles;
-use unknowns::wide_table;
 ghost use mathlib.Core.Path.{_≡_};
 ghost use Rattle.cycle.specs.Answers.{ran};
 ghost use Rattle.static_run.specs.StaticCalls.{staticRunOf};
@@ -23,6 +22,5 @@ pub fn static_run(
     if let Outcome::Refused(r) = o {
         return RunAnswer::Refused(r);
     }
-    let t = wide_table();
-    RunAnswer::Done(cycles(image, &t, 8, k, state, rows, outputs))
+    RunAnswer::Done(cycles(image, 8, k, state, rows, outputs))
 }

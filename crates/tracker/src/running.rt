@@ -1,7 +1,6 @@
 // A run: many cycles.
 use crate::refusing::run_refusal;
 use cycle::RunAnswer;
-use gates::table;
 use refusals::Outcome;
 use run_cycles::cycles;
 ghost use mathlib.Core.Path.{_≡_};
@@ -17,6 +16,5 @@ pub fn run(image: &[u8], k: usize, state: &mut [u8], rows: &[u8], outputs: &mut 
     if let Outcome::Refused(r) = o {
         return RunAnswer::Refused(r);
     }
-    let t = table();
-    RunAnswer::Done(cycles(image, &t, 4, k, state, rows, outputs))
+    RunAnswer::Done(cycles(image, 4, k, state, rows, outputs))
 }

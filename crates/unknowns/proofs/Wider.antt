@@ -34,8 +34,8 @@ pub code-below : {w : ℕ} {t : List ℕ} → Tabled w t → (x : ℕ) → codeB
 code-below t x h = ⊎-elim (λ e. rw e (code-4 x (rw e at h))) (λ e. rw e (code-8 x (rw e at h))) (t .width-is)
 
 -- a width that is not 4 is 8
-pub other-width : {w : ℕ} {t : List ℕ} → Tabled w t → (w ≡ 4 → ⊥) → w ≡ 8
-other-width t other = ⊎-elim (λ e. absurd (other e)) (λ e. e) (t .width-is)
+pub other-width : {w : ℕ} → (w ≡ 4) ⊎ (w ≡ 8) → (w ≡ 4 → ⊥) → w ≡ 8
+other-width is other = ⊎-elim (λ e. absurd (other e)) (λ e. e) is
 
 -- a CONST's byte is one, and the rule gives codes
 pub const-code : (w a : ℕ) → a ≤ 1 → codeBy w a ≡ true

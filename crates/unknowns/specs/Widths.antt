@@ -34,6 +34,12 @@ pub record Tabled (width : ℕ) (t : List ℕ) : Type 0 where
       (kind a b c : ℕ) → kind < 9 → codeBy width a ≡ true → codeBy width b ≡ true → codeBy width c ≡ true
       → getD t (widthIndex width kind a b c) 0 ≡ ruleBy width kind a b c
 
+-- the tables of a run of that width: of plain bytes always, and of codes with unknowns where it is 8
+pub record Tables (width : ℕ) (plain wide : List ℕ) : Type 0 where
+  pub width-is : (width ≡ 4) ⊎ (width ≡ 8)
+  pub plain-table : Tabled 4 plain
+  pub wide-table : width ≡ 8 → Tabled 8 wide
+
 -- the table of codes with unknowns, of which the first n places are written
 pub record Wide (n : ℕ) (t : List ℕ) : Type 0 where
   pub size : length t ≡ 4608

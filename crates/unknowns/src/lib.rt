@@ -8,4 +8,4 @@ pub use reading::inverse;
 pub use tables::mux_codes;
 pub use tables::pair_codes;
 pub use widening::static_byte;
-pub use widening::wide_table;
+pub use widening::wide_table_for;

@@ -4,6 +4,7 @@ use crate::tables::pair_codes;
 ghost use mathlib.Core.Path.{_≡_};
 ghost use mathlib.Core.Bool.{true};
 ghost use Prim.Native.Nat.{_+_, _*_, _<_};
+ghost use lib.ListN.{length};
 ghost use Rattle.unknowns.specs.Filling.{isCode, staticByte};
 ghost use Rattle.unknowns.specs.Tables.{place, MuxTable, PairTable};
 ghost use Rattle.unknowns.specs.Widths.{Wide, Tabled};
@@ -47,7 +48,7 @@ fn put_row(mux: &[u8; 216], pairs: &[u8; 324], r: usize, t: &mut [u8])
 }
 
 // The table.
-pub fn wide_table() -> [u8; 4608]
+fn wide_table() -> [u8; 4608]
     ensures { λ r. ⌜ Tabled 8 r ⌝ }
 {
     let mux = mux_codes();
@@ -59,4 +60,14 @@ pub fn wide_table() -> [u8; 4608]
         r += 1;
     }
     t
+}
+
+// The table for a run of that width: with 4 there are no unknowns, and it is not looked at.
+pub fn wide_table_for(width: usize) -> [u8; 4608]
+    ensures { λ r. ⌜ (length r ≡ 4608) × (width ≡ 8 → Tabled 8 r) ⌝ }
+{
+    if width == 8 {
+        return wide_table();
+    }
+    [0u8; 4608]
 }

@@ -31,12 +31,12 @@ module _ (c : tie.Start) where
 -- the net bytes that were worked out are as many as before
 module _ (c : tie.After-work-out-listed) where
   abbrev start : tie.Start
-  start = c .before .before .before .before .before .before .before .before .before .before .before
+  start = c .before .before .before .before .before .before .before .before .before .before .before .before
 
-  size : length (c .work-out-listed .last .1 .1 .1 .1 .1 .1 .1 .0) ≡ 40960
-  size = c .work-out-listed .kept .1 .1 .1 .1 .1 .1 .1 .0 ∙ start .pre .1 .0 .0
+  size : length (c .work-out-listed .last .1 .1 .1 .1 .1 .1 .1 .1 .0) ≡ 40960
+  size = c .work-out-listed .kept .1 .1 .1 .1 .1 .1 .1 .1 .0 ∙ start .pre .1 .0 .0
 
-  enough : sizesOf (start .args .image .now) .nets ≤ length (c .work-out-listed .last .1 .1 .1 .1 .1 .1 .1 .0)
+  enough : sizesOf (start .args .image .now) .nets ≤ length (c .work-out-listed .last .1 .1 .1 .1 .1 .1 .1 .1 .0)
   enough = omega (arith, size, ready start .image .few-nets)
 
 first-listed-requires : tie.Need-first-listed-requires
@@ -74,7 +74,7 @@ returns c =
     let begun = start worked in
     let s = begun .args .image .now in
     let f = found begun in
-    let nets = worked .work-out-listed .last .1 .1 .1 .1 .1 .1 .1 .0 in
+    let nets = worked .work-out-listed .last .1 .1 .1 .1 .1 .1 .1 .1 .0 in
     let done = worked .work-out-listed .ensures in
     let image = ready begun .image in
     let earlier = begun .args .earlier in
@@ -89,15 +89,15 @@ pub cycle-spec : {M : Type 1} → statement M
 cycle-spec =
     tie.close
     (tie.spec
-    (λ c κs. let begun = c .before .before .before .before .before .before .before .before .before .before in (begun .pre .0, (begun .pre .1 .0, (found begun, begun .pre .1 .1 .1 .0))))
+    (λ c κs. let begun = c .before .before .before .before .before .before .before .before .before .before .before in (begun .pre .0, (begun .pre .1 .0, (found begun, begun .pre .1 .1 .1 .0))))
     (λ c. search needs)
     (λ c. search needs)
     (λ c. search needs)
     (λ c. search needs)
-    (λ c. search needs)
-    (λ c. search needs)
-    (λ c. search needs)
-    (λ c. search needs)
+    (λ c. let begun = start (c .before .before .before) in search (needs, begun .good .1 .1 .1 .1 .1 .0, found begun .in-order))
+    (λ c. let begun = start (c .before .before .before) in search (needs, begun .good .1 .1 .1 .1 .1 .0, found begun .in-order))
+    (λ c. let begun = start (c .before .before .before) in search (needs, begun .good .1 .1 .1 .1 .1 .0, found begun .in-order))
+    (λ c. let begun = start (c .before .before .before) in search (needs, begun .good .1 .1 .1 .1 .1 .0, found begun .in-order))
     (λ c. let begun = start (c .before .before .before .before .before) in sym (length-take-le _ _ (begun .pre .1 .1 .0 .1 .there)))
     first-listed-requires
     take-bytes-requires

@@ -17,17 +17,18 @@ use Rattle.cycle.specs.Cycle.{cycleOf, FirstFlow}
 use Rattle.cycle.proofs.Calls.{ReadyOf}
 use Rattle.cycle.proofs.Runs.{product-fits, after, Running, run-begins, all-outputs, row-fits, row-ready, outputs-fit, run-goes-on, run-ends}
 use Rattle.settling.specs.Settling.{Prepared}
+use Rattle.unknowns.proofs.Wider.{plain-tabled}
 use Rattle.run_cycles.specs.Taking.{rulesBy}
 use Rattle.run_cycles.proofs.Cycling.{IsCodeBy, taken-ready, ready-taken, width-kept}
 use Rattle.run_cycles.proofs.running.cycles.Statement.{statement}
 use Rattle.run_cycles.proofs.running.cycles.Tie as tie
 
 abbrev Inv-loop : tie.InvT-loop
-Inv-loop image t width k state₀ rows outputs₀ z n list protected nets₀ p first₀ row₀ out₀ c₀ state outputs nets first row out c =
+Inv-loop image width k state₀ rows outputs₀ z n plain wide list protected nets₀ p first₀ row₀ out₀ c₀ state outputs nets first row out c =
     (c ≤ k) × Running (rulesBy width) (IsCodeBy width) image k rows state₀ c (k - c) state outputs (firstFlowIn first) row out × (length nets ≡ 40960) × Prepared width image nets (sizesOf image .nets)
 
 abbrev μ-loop : tie.MeasureT-loop
-μ-loop image t width k state₀ rows outputs₀ z n list protected nets₀ p first₀ row₀ out₀ c₀ state outputs nets first row out c = k - c
+μ-loop image width k state₀ rows outputs₀ z n plain wide list protected nets₀ p first₀ row₀ out₀ c₀ state outputs nets first row out c = k - c
 
 -- the bytes are those of an accepted run, and so few that their numbers fit
 accepted : (c : tie.Start Inv-loop μ-loop)
@@ -46,12 +47,12 @@ outputs-few c =
     product-fits (c .pre .1 .1 .0) (omega (arith, image .outputs, few-of image OUT))
 
 sizes-of-requires : tie.Need-sizes-of-requires Inv-loop μ-loop
-sizes-of-requires c κs = omega (arith, accepted (c .before .before .before .before .before) .image .exact)
+sizes-of-requires c κs = omega (arith, accepted (c .before .before .before .before) .image .exact)
 
 -- the sizes
 module _ (c : tie.After-sizes-of Inv-loop μ-loop) where
   abbrev begun : tie.Start Inv-loop μ-loop
-  begun = c .before .before .before .before .before .before
+  begun = c .before .before .before .before .before
 
   nets-are : c .sizes-of .result .nets ≡ sizesOf (begun .args .image .now) .nets
   nets-are = ap (λ (z : Sizes). z .nets) (c .sizes-of .ensures)
@@ -60,11 +61,11 @@ module _ (c : tie.After-sizes-of Inv-loop μ-loop) where
   nets-few = omega (arith, nets-are, accepted begun .image .few-nets)
 
 find-parts-requires : tie.Need-find-parts-requires Inv-loop μ-loop
-find-parts-requires c κs = let sized = c .before .before in (check-none _ .1 (accepted (begun sized) .image), refl, refl)
+find-parts-requires c κs = let sized = c .before .before .before .before in (check-none _ .1 (accepted (begun sized) .image), refl, refl)
 
 set-constants-requires : tie.Need-set-constants-requires Inv-loop μ-loop
 set-constants-requires c κs =
-    let sized = c .before .before .before .before .before .before in
+    let sized = c .before .before .before .before .before .before .before .before in
     (check-none _ .1 (accepted (begun sized) .image), nets-are sized, refl)
 
 prepared-at : {w : ℕ} {s nets : List ℕ} {n m : ℕ} → n ≡ m → Prepared w s nets n → Prepared w s nets m
@@ -73,7 +74,7 @@ prepared-at e p = rw e at p
 loop-holds : tie.Need-loop-holds Inv-loop μ-loop
 loop-holds c =
     let set = c .before in
-    let sized = set .before .before .before .before .before .before .before in
+    let sized = set .before .before .before .before .before .before .before .before .before in
     let start = begun sized in
     let args = start .args in
     let all : args .k - 0 ≡ args .k = omega arith in (
@@ -85,7 +86,7 @@ loop-holds c =
 
 -- what stands at the head of the loop
 abbrev sized-at : tie.At-loop Inv-loop μ-loop → tie.After-sizes-of Inv-loop μ-loop
-sized-at c = c .before .before .before .before .before .before .before .before .before
+sized-at c = c .before .before .before .before .before .before .before .before .before .before .before
 
 abbrev begun-at : tie.At-loop Inv-loop μ-loop → tie.Start Inv-loop μ-loop
 begun-at c = begun (sized-at c)
@@ -117,29 +118,31 @@ add-out-end c =
 
 part-cycle-end : tie.Need-part-cycle-end Inv-loop μ-loop
 part-cycle-end c =
-    let turn-at = c .before .before .before .before in
+    let turn-at = c .before .before .before .before .before .before in
     let sized = sized-at (turn-at .before) in
     rw (sized .sizes-of .ensures) (row-fits (turn turn-at))
 
 part-cycle-end-2 : tie.Need-part-cycle-end-2 Inv-loop μ-loop
 part-cycle-end-2 c =
-    let turn-at = c .before .before .before .before .before .before .before in
+    let turn-at = c .before .before .before .before .before .before .before .before .before in
     let sized = sized-at (turn-at .before) in
     rw (sized .sizes-of .ensures) (outputs-fit (turn turn-at))
 
 cycle-requires : tie.Need-cycle-requires Inv-loop μ-loop
 cycle-requires c κs =
-    let turn-at = c .before .before .before .before .before .before .before .before in
+    let turn-at = c .before .before .before .before .before .before .before .before .before .before in
     let at = turn-at .before in
     let found = at .before .before .before .before .before .before in
-    let sized = found .before .before .before in
+    let widened = found .before .before .before in
+    let tabled = widened .before in
+    let sized = tabled .before in
     let r = turn turn-at in
     let s = begun sized .args .image .now in
     let row = at .loop .row in
     let out = at .loop .out in
     let e : row + sized .sizes-of .result .inputs - row ≡ sizesOf s .inputs = omega (arith, ap (λ (z : Sizes). z .inputs) (sized .sizes-of .ensures)) in
     let f : out + sized .sizes-of .result .outputs - out ≡ sizesOf s .outputs = omega (arith, ap (λ (z : Sizes). z .outputs) (sized .sizes-of .ensures)) in (
-      begun sized .pre .0,
+      record { width-is = begun sized .pre .0; plain-table = plain-tabled (tabled .table .ensures); wide-table = widened .wide-table-for .ensures .1 },
       (
         (at .loop .inv .2, rw e (ready-taken (row-ready r))),
         (
@@ -163,14 +166,14 @@ run-next w r st-is ys-are first-is i-is o-is = rw (st-is, ys-are, first-is, i-is
 
 module _ (c : tie.After-cycle Inv-loop μ-loop) where
   abbrev turn-of : tie.In-loop Inv-loop μ-loop
-  turn-of = c .before .before .before .before .before .before .before .before .before
+  turn-of = c .before .before .before .before .before .before .before .before .before .before .before
 
   next : let at = turn-of .before in
       let z = sized-at at .sizes-of .result in
       let args = begun-at at .args in
       let i = at .loop .c in
-      Running (rulesBy (args .width)) (IsCodeBy (args .width)) (args .image .now) (args .k) (args .rows .now) (args .state .now) (suc i) (args .k - suc i) (c .cycle .last .1 .1 .1 .1 .1 .1 .1 .1 .1 .0)
-      (take (at .loop .out) (at .loop .outputs) ++ (c .cycle .last .1 .1 .1 .1 .1 .1 .1 .1 .1 .1 .1 .0 ++ drop (at .loop .out + z .outputs) (at .loop .outputs)))
+      Running (rulesBy (args .width)) (IsCodeBy (args .width)) (args .image .now) (args .k) (args .rows .now) (args .state .now) (suc i) (args .k - suc i) (c .cycle .last .1 .1 .1 .1 .1 .1 .1 .1 .1 .1 .0)
+      (take (at .loop .out) (at .loop .outputs) ++ (c .cycle .last .1 .1 .1 .1 .1 .1 .1 .1 .1 .1 .1 .1 .0 ++ drop (at .loop .out + z .outputs) (at .loop .outputs)))
       (firstFlowIn (c .cycle .result)) (at .loop .row + z .inputs) (at .loop .out + z .outputs)
   next =
       let at = turn-of .before in
@@ -192,7 +195,7 @@ loop-again c =
     let z = sized-at at .sizes-of .result in (
       omega (arith, turn-at .loop-test .taken),
       rw (add-one (at .loop .c), post-is (at .loop .out) (at .loop .out + z .outputs) (at .loop .outputs) (omega arith)) (next called),
-      called .cycle .kept .1 .1 .1 .1 .1 .1 .1 .1 .1 .1 .0 ∙ at .loop .inv .2,
+      called .cycle .kept .1 .1 .1 .1 .1 .1 .1 .1 .1 .1 .1 .0 ∙ at .loop .inv .2,
       called .cycle .ensures .1 .1 .1,
     )
 
@@ -220,6 +223,8 @@ cycles-spec =
     Inv-loop
     μ-loop
     sizes-of-requires
+    (λ c κs. search needs)
+    (λ c κs. search needs)
     (λ c. search needs)
     (λ c. search needs)
     find-parts-requires
@@ -228,12 +233,14 @@ cycles-spec =
     loop-holds
     add-row-end
     add-out-end
+    (λ c. sym (c .before .before .before .before .before .before .before .before .before .before .before .before .before .before .table .ensures .size))
+    (λ c. sym (c .before .before .before .before .before .before .before .before .before .before .before .before .before .before .wide-table-for .ensures .0))
     (λ c. search needs)
     (λ c. search needs)
     (λ c. search needs)
     (λ c. search needs)
     part-cycle-end
-    (λ c. sym (c .before .before .before .before .before .before .before .before .loop .inv .2))
+    (λ c. sym (c .before .before .before .before .before .before .before .before .before .before .loop .inv .2))
     (λ c. search needs)
     (λ c. search needs)
     part-cycle-end-2

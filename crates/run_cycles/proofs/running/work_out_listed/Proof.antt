@@ -31,12 +31,12 @@ module _ (c : tie.Start) where
 
 slice-aggregate-ins : tie.Need-slice-aggregate-ins
 slice-aggregate-ins c =
-    let order = found (c .before .before .before .before .before .before .before) .in-order in
+    let order = found (c .before .before .before .before .before .before .before .before) .in-order in
     sym (length-take-le _ _ (omega (arith, order .0, order .1, order .2)))
 
 put-bytes-requires : tie.Need-put-bytes-requires
 put-bytes-requires c κs =
-    let start = c .before .before .before .before .before .before .before .before .before in
+    let start = c .before .before .before .before .before .before .before .before .before .before in
     let s = start .args .image .now in
     let f = found start in
     let r = ready start in
@@ -48,7 +48,7 @@ put-bytes-requires c κs =
 -- after the first
 module _ (c : tie.After-put-bytes) where
   abbrev start₁ : tie.Start
-  start₁ = c .before .before .before .before .before .before .before .before .before .before
+  start₁ = c .before .before .before .before .before .before .before .before .before .before .before
 
   size₁ : length (c .put-bytes .last .1 .1 .1 .0) ≡ 40960
   size₁ = c .put-bytes .ensures .size ∙ size start₁

@@ -1,5 +1,6 @@
 -- `static_run::running::static_run` meets its contract: a refusal leaves the state and the outputs, and else the cycles are run.
-use mathlib.Core.Path.{_≡_, sym, ap, _∙_}
+use mathlib.Core.Logic.{inr}
+use mathlib.Core.Path.{_≡_, refl, sym, ap, _∙_}
 use mathlib.Core.Option.{none}
 use borrow.Author.Needs.{needs}
 use Rattle.refusals.specs.Refusals.{refusalIn}
@@ -20,15 +21,12 @@ not-refused : (c : tie.After-enum-told)
 not-refused c = sym (c .before .before .static-run-refusal .ensures) ∙ ap refusalIn (c .enum-told .given .1)
 
 cycles-requires : tie.Need-cycles-requires
-cycles-requires c κs =
-    let tabled = c .before .before .before in
-    let taken = static-taken _ _ _ _ _ (not-refused (tabled .before)) in
-    (tabled .wide-table .ensures, taken)
+cycles-requires c κs = (inr refl, static-taken _ _ _ _ _ (not-refused (c .before .before)))
 
 returns-2 : tie.Need-returns-2
 returns-2 c =
     let ran = c .before .before .before .before in
-    ran .cycles .ensures ∙ static-ran _ _ _ _ _ (not-refused (ran .before .before .before .before .before))
+    ran .cycles .ensures ∙ static-ran _ _ _ _ _ (not-refused (ran .before .before .before))
 
 pub static-run-spec : {M : Type 1} → statement M
 static-run-spec =
@@ -40,8 +38,6 @@ static-run-spec =
     (λ c. search needs)
     returns
     (λ c. search needs)
-    (λ c κs. search needs)
-    (λ c. sym (c .before .wide-table .ensures .size))
     cycles-requires
     (λ c. search needs)
     (λ c. search needs)

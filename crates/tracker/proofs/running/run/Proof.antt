@@ -1,9 +1,9 @@
 -- `tracker::running::run` meets its contract: a refusal leaves the state and the outputs, and else the cycles are run.
-use mathlib.Core.Path.{_≡_, sym, ap, _∙_}
+use mathlib.Core.Logic.{inl}
+use mathlib.Core.Path.{_≡_, refl, sym, ap, _∙_}
 use mathlib.Core.Option.{none}
 use borrow.Author.Needs.{needs}
 use Rattle.refusals.specs.Refusals.{refusalIn}
-use Rattle.unknowns.proofs.Wider.{plain-tabled}
 use Rattle.cycle.specs.Calls.{runRefusal}
 use Rattle.cycle.proofs.Calls.{run-refused}
 use Rattle.run_cycles.proofs.PlainRuns.{plain-taken, plain-run}
@@ -22,15 +22,12 @@ not-refused : (c : tie.After-enum-told)
 not-refused c = sym (c .before .before .run-refusal .ensures) ∙ ap refusalIn (c .enum-told .given .1)
 
 cycles-requires : tie.Need-cycles-requires
-cycles-requires c κs =
-    let tabled = c .before .before .before in
-    let taken = plain-taken _ _ _ _ _ (not-refused (tabled .before)) in
-    (plain-tabled (tabled .table .ensures), taken)
+cycles-requires c κs = (inl refl, plain-taken _ _ _ _ _ (not-refused (c .before .before)))
 
 returns-2 : tie.Need-returns-2
 returns-2 c =
     let ran = c .before .before .before .before in
-    ran .cycles .ensures ∙ plain-run _ _ _ _ _ (not-refused (ran .before .before .before .before .before))
+    ran .cycles .ensures ∙ plain-run _ _ _ _ _ (not-refused (ran .before .before .before))
 
 pub run-spec : {M : Type 1} → statement M
 run-spec =
@@ -42,8 +39,6 @@ run-spec =
     (λ c. search needs)
     returns
     (λ c. search needs)
-    (λ c κs. search needs)
-    (λ c. sym (c .before .table .ensures .size))
     cycles-requires
     (λ c. search needs)
     (λ c. search needs)
