@@ -133,7 +133,7 @@ wide-next {i} {x} {t} l w right =
           let sc = code-small (is-code c hc) in
           ⊎-elim
           (λ e. rw e (getD-set-same t i x 0 (omega (arith, w .size)))
-              ∙ right kind a b c ha hb hc (omega arith) (omega arith) (omega arith) (omega arith))
+          ∙ right kind a b c ha hb hc (omega arith) (omega arith) (omega arith) (omega arith))
           (λ m. getD-set-other t i j x 0 (λ e. omega arith) ∙ w .codes kind a b c k ha hb hc m)
           (here-or-below i j h);
     }

@@ -18,7 +18,14 @@ fn place_of(x: usize) -> usize
 }
 
 // The code of a gate or OUT from the codes of its pins, where they are codes.
-pub fn static_byte(mux: &[u8; 216], pairs: &[u8; 324], kind: usize, a: usize, b: usize, c: usize) -> u8
+pub fn static_byte(
+    mux: &[u8; 216],
+    pairs: &[u8; 324],
+    kind: usize,
+    a: usize,
+    b: usize,
+    c: usize,
+) -> u8
     requires { ⌜ MuxTable (now mux) × PairTable (now pairs) ⌝ }
     requires { ⌜ (kind < 9) × (a < 8) × (b < 8) × (c < 8) ⌝ }
     ensures { λ r. ⌜ (isCode a ≡ true → isCode b ≡ true → isCode c ≡ true → r ≡ staticByte kind a b c) ⌝ }

@@ -39,8 +39,7 @@ put-bytes-requires c κs =
     let start = c .before .before .before .before .before .before .before .before .before .before in
     let s = start .args .image .now in
     let f = found start in
-    let r = ready start in
-    (
+    let r = ready start in (
       start .pre .1 .0 .1 .codes,
       (r .size ∙ r .image .inputs ∙ sym (list-size s INPUT (f .ins)), places-fit (few start) (listed-places s refl INPUT (f .ins)), size start),
     )
@@ -59,8 +58,7 @@ put-bytes-requires-2 c κs =
     let start = start₁ first in
     let s = start .args .image .now in
     let f = found start in
-    let r = ready start in
-    (
+    let r = ready start in (
       start .pre .1 .0 .1 .state,
       (r .state .size ∙ r .image .registers ∙ sym (list-size s REG (f .regs)), places-fit (few start) (listed-places s refl REG (f .regs)), size₁ first),
     )
