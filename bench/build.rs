@@ -9,11 +9,13 @@ use std::process::{self, Command};
 const SOURCE: &str = "c/lists.c";
 
 /// The calls of the library.
-const CALLS: [&str; 7] = [
+const CALLS: [&str; 9] = [
     "check",
     "power_up",
     "step",
     "run",
+    "static_power_up",
+    "static_run",
     "doubled_size",
     "doubled_kind",
     "double",
@@ -21,7 +23,7 @@ const CALLS: [&str; 7] = [
 
 fn main() {
     println!("cargo:rerun-if-changed=build.rs");
-    println!("cargo:rustc-check-cfg=cfg(c_peer, other, other_size)");
+    println!("cargo:rustc-check-cfg=cfg(c_peer, other, other_size, other_static)");
     let out = env::var_os("OUT_DIR").expect("cargo sets OUT_DIR");
     compile_peer(Path::new(&out));
     rename_other(Path::new(&out));
@@ -63,6 +65,9 @@ fn rename_other(out: &Path) {
     assert_succeeds(rename.arg(&archive).arg(out.join("libother.a")));
     if has_call(&archive, "tracker_doubled_size") {
         println!("cargo:rustc-cfg=other_size");
+    }
+    if has_call(&archive, "tracker_static_run") {
+        println!("cargo:rustc-cfg=other_static");
     }
     println!("cargo:rustc-link-search=native={}", out.display());
     println!("cargo:rustc-link-lib=static=other");

@@ -2,7 +2,7 @@
 
 use crate::accepted::accepted;
 use crate::call::Call;
-use crate::generate::{image, rows};
+use crate::generate::{image, row_codes, rows};
 use crate::mix::Mix;
 use crate::peer::Peer;
 use tracker::{ffi, Sizes};
@@ -53,7 +53,8 @@ impl Case {
     }
 }
 
-/// A case with its bytes: the image, the state at power-up, and rows.
+/// A case with its bytes: the image, the state at power-up, and rows; or, for a
+/// static run, the state at static power-up, and rows of codes.
 pub struct Bytes {
     pub image: Vec<u8>,
     pub sizes: Sizes,
@@ -78,6 +79,22 @@ impl Bytes {
             image,
             sizes,
             start,
+        }
+    }
+
+    /// The codes of a case with rows for k cycles of a static run.
+    pub fn codes_of(case: Case, k: usize) -> Bytes {
+        Bytes::of(case, 0).with_codes(k, ROW_SEED)
+    }
+
+    /// The same image with rows of codes for k cycles of a static run.
+    pub fn with_codes(self, k: usize, seed: u64) -> Bytes {
+        let mut start = self.start;
+        assert_eq!(ffi::static_power_up(&self.image, &mut start), 0);
+        Bytes {
+            rows: row_codes(k * self.sizes.inputs, seed),
+            start,
+            ..self
         }
     }
 

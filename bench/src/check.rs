@@ -1,4 +1,5 @@
-//! What the peers test before a run: the refusals 1 to 14 of a run, in order.
+//! What the peers test before a run: the refusals 1 to 14 of a run, in order, and
+//! those of a static run, which has 18 in place of 11 and 13.
 //!
 //! An answer is the refusal's number * 2^32 + its place, as the library's.
 
@@ -6,7 +7,7 @@ use crate::call::Call;
 use crate::limits::{Limits, NO_KIND};
 use crate::pins::net_of;
 use tracker::kinds::{AND, CONST, INPUT, MUX, NOT, OUT, REG, XOR};
-use tracker::{sizes, Image, Net, Sizes, MOST_CYCLES, MOST_NETS};
+use tracker::{codes, sizes, Image, Net, Sizes, MOST_CYCLES, MOST_NETS};
 
 /// The answer of a refusal.
 pub fn refusal(number: u64, place: usize) -> u64 {
@@ -73,28 +74,52 @@ fn bad_net(net: Net, i: usize, n: usize) -> u64 {
 
 /// Checks all that a run is lent: the image's sizes, or a refusal 1 to 14.
 pub fn check_run(call: &Call) -> Result<Sizes, u64> {
+    check_lent(call, [11, 13], |byte| byte <= 3)
+}
+
+/// Checks all that a static run is lent: the image's sizes, or a refusal 1 to 10,
+/// 12, 14 or 18.
+pub fn check_static_run(call: &Call) -> Result<Sizes, u64> {
+    check_lent(call, [18, 18], codes::is_code)
+}
+
+/// Checks all that a call is lent. The two numbers are the refusals of a byte that
+/// is not taken, in the state and in the rows.
+#[inline(always)]
+fn check_lent(
+    call: &Call,
+    [in_state, in_rows]: [u64; 2],
+    is_taken: impl Fn(u8) -> bool + Copy,
+) -> Result<Sizes, u64> {
     let sizes = check(call.image)?;
     if call.k > MOST_CYCLES {
         return Err(refusal(9, 0));
     }
-    check_bytes(10, call.state, sizes.registers)?;
-    check_bytes(12, call.rows, call.k * sizes.inputs)?;
+    check_length(10, call.state, sizes.registers)?;
+    check_bytes(in_state, call.state, is_taken)?;
+    check_length(12, call.rows, call.k * sizes.inputs)?;
+    check_bytes(in_rows, call.rows, is_taken)?;
     if call.outputs.len() != call.k * sizes.outputs {
         return Err(refusal(14, 0));
     }
     Ok(sizes)
 }
 
-/// Refusal `number` where there are not `length` bytes, and the next where a
-/// byte is above 3. The first pass has no early end, so that many bytes are
-/// tested at once.
-fn check_bytes(number: u64, bytes: &[u8], length: usize) -> Result<(), u64> {
-    if bytes.len() != length {
-        return Err(refusal(number, 0));
+/// Refusal `number` where there are not `length` bytes.
+fn check_length(number: u64, bytes: &[u8], length: usize) -> Result<(), u64> {
+    match bytes.len() == length {
+        true => Ok(()),
+        false => Err(refusal(number, 0)),
     }
-    if bytes.iter().fold(false, |bad, byte| bad | (*byte > 3)) {
-        let first = bytes.iter().position(|byte| *byte > 3).unwrap_or(0);
-        return Err(refusal(number + 1, first));
+}
+
+/// Refusal `number` where a byte is not taken. The first pass has no early end, so
+/// that many bytes are tested at once.
+#[inline(always)]
+fn check_bytes(number: u64, bytes: &[u8], is_taken: impl Fn(u8) -> bool) -> Result<(), u64> {
+    if bytes.iter().fold(false, |bad, byte| bad | !is_taken(*byte)) {
+        let first = bytes.iter().position(|byte| !is_taken(*byte)).unwrap_or(0);
+        return Err(refusal(number, first));
     }
     Ok(())
 }

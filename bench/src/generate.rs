@@ -5,13 +5,16 @@ use crate::mix::{Mix, PROTECTED};
 use crate::random::Random;
 use crate::real::real_net;
 use tracker::kinds::{CONST, INPUT, MUX, NOT, OUT, REG};
-use tracker::{encode, Net};
+use tracker::{codes, encode, Net};
 
 /// The nets at the start that are no gates, so that pins have something to name.
 const SOURCES: usize = 8;
 
 /// The row bytes in 100 that are marked.
 const MARKED: usize = 25;
+
+/// The row codes of a static run in 100 whose value is not known.
+const UNKNOWN: usize = 50;
 
 /// An image of n nets. Where `protect` is false no OUT is protected, and else
 /// the netlist is the same but for the protected OUTs.
@@ -107,4 +110,21 @@ pub fn rows(length: usize, seed: u64) -> Vec<u8> {
     let mut random = Random::new(seed);
     let mut byte = || random.below(2) as u8 + 2 * u8::from(random.chance(MARKED));
     (0..length).map(|_| byte()).collect()
+}
+
+/// The same row bytes with half of them made unknown, each with its mark, so that a
+/// run on the bytes is one of those that a static run on these codes speaks of.
+pub fn row_codes(length: usize, seed: u64) -> Vec<u8> {
+    let mut random = Random::new(!seed);
+    let unknown = |byte: u8| match codes::is_marked(byte) {
+        true => codes::UNKNOWN_UNTRUSTED,
+        false => codes::UNKNOWN_TRUSTED,
+    };
+    let bytes = rows(length, seed).into_iter();
+    bytes
+        .map(|byte| match random.chance(UNKNOWN) {
+            true => unknown(byte),
+            false => byte,
+        })
+        .collect()
 }

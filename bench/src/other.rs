@@ -30,6 +30,18 @@ extern "C" {
         outputs: *mut u8,
         outputs_length: usize,
     ) -> u64;
+    #[cfg(other_static)]
+    fn other_static_run(
+        image: *const u8,
+        image_length: usize,
+        k: usize,
+        state: *mut u8,
+        state_length: usize,
+        rows: *const u8,
+        rows_length: usize,
+        outputs: *mut u8,
+        outputs_length: usize,
+    ) -> u64;
     #[cfg(other_size)]
     fn other_doubled_size(image: *const u8, image_length: usize) -> u64;
     fn other_double(
@@ -70,6 +82,30 @@ pub fn step(image: &[u8], state: &mut [u8], row: &[u8], nets: &mut [u8]) -> u64 
 pub fn run(image: &[u8], k: usize, state: &mut [u8], rows: &[u8], outputs: &mut [u8]) -> u64 {
     unsafe {
         other_run(
+            image.as_ptr(),
+            image.len(),
+            k,
+            state.as_mut_ptr(),
+            state.len(),
+            rows.as_ptr(),
+            rows.len(),
+            outputs.as_mut_ptr(),
+            outputs.len(),
+        )
+    }
+}
+
+/// The static run. It is there only where the other build has it.
+#[cfg(other_static)]
+pub fn static_run(
+    image: &[u8],
+    k: usize,
+    state: &mut [u8],
+    rows: &[u8],
+    outputs: &mut [u8],
+) -> u64 {
+    unsafe {
+        other_static_run(
             image.as_ptr(),
             image.len(),
             k,

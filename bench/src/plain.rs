@@ -53,27 +53,27 @@ fn read(nets: &[u8], pin: u16) -> u8 {
 }
 
 /// The value and the mark of a byte.
-fn split(byte: u8) -> (bool, bool) {
+pub fn split(byte: u8) -> (bool, bool) {
     (byte & 1 == 1, byte & 2 == 2)
 }
 
-fn not((a, ta): (bool, bool)) -> (bool, bool) {
+pub fn not((a, ta): (bool, bool)) -> (bool, bool) {
     (!a, ta)
 }
 
-fn and((a, ta): (bool, bool), (b, tb): (bool, bool)) -> (bool, bool) {
+pub fn and((a, ta): (bool, bool), (b, tb): (bool, bool)) -> (bool, bool) {
     (a & b, (ta & b) | (tb & a) | (ta & tb))
 }
 
-fn or((a, ta): (bool, bool), (b, tb): (bool, bool)) -> (bool, bool) {
+pub fn or((a, ta): (bool, bool), (b, tb): (bool, bool)) -> (bool, bool) {
     (a | b, (ta & !b) | (tb & !a) | (ta & tb))
 }
 
-fn xor((a, ta): (bool, bool), (b, tb): (bool, bool)) -> (bool, bool) {
+pub fn xor((a, ta): (bool, bool), (b, tb): (bool, bool)) -> (bool, bool) {
     (a ^ b, ta | tb)
 }
 
-fn mux((a, ta): (bool, bool), (b, tb): (bool, bool), (c, tc): (bool, bool)) -> (bool, bool) {
+pub fn mux((a, ta): (bool, bool), (b, tb): (bool, bool), (c, tc): (bool, bool)) -> (bool, bool) {
     let value = if c { b } else { a };
     let chosen = if c { tb } else { ta };
     (value, if tc { a | b | ta | tb } else { chosen })

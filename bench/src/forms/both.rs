@@ -36,8 +36,14 @@ impl Both {
     /// A net below 8,192 takes a byte.
     #[inline(always)]
     pub unsafe fn put(&mut self, net: usize, byte: u8) {
+        self.put_pair(net, byte, byte ^ 1);
+    }
+
+    /// A net below 8,192 takes a byte and its inverse.
+    #[inline(always)]
+    pub unsafe fn put_pair(&mut self, net: usize, byte: u8, inverse: u8) {
         self.0.get_unchecked_mut(net).write(byte);
-        self.0.get_unchecked_mut(INVERSES + net).write(byte ^ 1);
+        self.0.get_unchecked_mut(INVERSES + net).write(inverse);
     }
 
     /// What a pin reads. The net that it names has a byte.

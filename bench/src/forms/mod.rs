@@ -20,13 +20,13 @@
 //! (eight take a little fewer instructions and no less time); and "safe" with
 //! operands that are read byte by byte.
 
-mod both;
+pub mod both;
 mod branches;
 mod entries;
 mod lists;
 mod matched;
-mod passes;
-mod read;
+pub mod passes;
+pub mod read;
 mod safe;
 mod settle;
 pub mod table;
