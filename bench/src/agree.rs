@@ -13,27 +13,37 @@ use tracker::kinds::INVERTED;
 use tracker::{ffi, operand_place};
 
 /// How many small netlists are tried.
-const SMALL: usize = 600;
+pub const SMALL: usize = 600;
 
 /// Compares the peers with the library on small netlists, with few cycles.
 pub fn assert_agree_on_small(peers: &[Peer]) {
     for seed in 0..SMALL {
-        let mix = MIXES[seed % MIXES.len()];
-        let (n, k) = (1 + seed % 97, seed % 11);
-        let image = image(mix, n, seed as u64, seed % 2 == 0);
-        let bytes = Bytes::with_image(image, k, seed as u64);
+        let (bytes, k) = small(seed);
         assert_agree(&bytes, k, peers);
     }
+}
+
+/// A small netlist, and a number of cycles for which it has rows.
+pub fn small(seed: usize) -> (Bytes, usize) {
+    let mix = MIXES[seed % MIXES.len()];
+    let (n, k) = (1 + seed % 97, seed % 11);
+    let image = image(mix, n, seed as u64, seed % 2 == 0);
+    (Bytes::with_image(image, k, seed as u64), k)
+}
+
+/// Compares the peers that take the image with the library's run.
+pub fn assert_agree(bytes: &Bytes, k: usize, peers: &[Peer]) {
+    assert_agree_with(PEERS[0], bytes, k, peers);
 }
 
 /// Runs the library and the peers that take the image for k cycles and compares
 /// the answer, all outputs and the state left. Buffers start with other bytes on
 /// each side, so that what a peer leaves out is seen.
-pub fn assert_agree(bytes: &Bytes, k: usize, peers: &[Peer]) {
+pub fn assert_agree_with(library: Peer, bytes: &Bytes, k: usize, peers: &[Peer]) {
     let mut state = bytes.start.clone();
     let mut outputs = bytes.outputs(k);
     outputs.fill(0xaa);
-    let answer = bytes.run(PEERS[0], k, &mut state, &mut outputs);
+    let answer = bytes.run(library, k, &mut state, &mut outputs);
     assert!(answer >> 32 == 0, "the library turned the run back");
     for peer in peers.iter().filter(|peer| takes(peer.name, &bytes.image)) {
         let mut peer_state = bytes.start.clone();

@@ -19,11 +19,7 @@ pub fn checked_codes(call: Call, cycles: impl FnOnce(Call, Sizes) -> First) -> u
 
 /// The answer of a call by what its check gave.
 #[inline]
-fn answer(
-    check: Result<Sizes, u64>,
-    call: Call,
-    cycles: impl FnOnce(Call, Sizes) -> First,
-) -> u64 {
+fn answer(check: Result<Sizes, u64>, call: Call, cycles: impl FnOnce(Call, Sizes) -> First) -> u64 {
     let k = call.k as u64;
     match check {
         Err(refusal) => refusal,

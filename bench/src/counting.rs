@@ -48,7 +48,7 @@ pub fn print_counts(peers: &[Peer]) {
 }
 
 /// Both counts, in print.
-fn text(counts: Option<Counts>) -> String {
+pub fn text(counts: Option<Counts>) -> String {
     match counts {
         Some(counts) => format!("{:.1} / {:.2}", counts.instructions, counts.mispredicted),
         None => "failed".to_string(),

@@ -17,7 +17,7 @@ type PowerUp = fn(&[u8], &mut [u8]) -> u64;
 type Step = fn(&[u8], &mut [u8], &[u8], &mut [u8]) -> u64;
 
 /// A run: the image, k, the state, the rows and the outputs.
-type Run = fn(&[u8], usize, &mut [u8], &[u8], &mut [u8]) -> u64;
+pub type Run = fn(&[u8], usize, &mut [u8], &[u8], &mut [u8]) -> u64;
 
 /// The nets of the doubled netlist: the image.
 type DoubledSize = fn(&[u8]) -> u64;

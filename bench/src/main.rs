@@ -2,10 +2,11 @@
 //!
 //! Without arguments: all tables of the library and its peers. Each can be printed
 //! alone: `run` (times), `counts` (instructions and mispredicted branches of a
-//! run), `once` (runs of one cycle), `calls` (instructions of each call), `linear`
-//! (check, doubled_size and double). `forms`: times and counts of the forms of
-//! src/forms. `count ..`: work for valgrind to count. `netlist MIX NETS SEED CYCLES
-//! FOLDER` and `listing MIX NETS SEED ROWS FOLDER`: files for the hardware tools.
+//! run), `once` (runs of one cycle), `static` (static runs beside plain ones),
+//! `calls` (instructions of each call), `linear` (check, doubled_size and double).
+//! `forms`: times and counts of the forms of src/forms. `count ..`: work for
+//! valgrind to count. `netlist MIX NETS SEED CYCLES FOLDER` and `listing MIX NETS
+//! SEED ROWS FOLDER`: files for the hardware tools.
 
 mod accepted;
 mod agree;
@@ -39,9 +40,11 @@ mod pins;
 mod plain;
 mod random;
 mod real;
+mod repeated;
 mod rounds;
 mod running;
 mod sizing;
+mod statics;
 mod verilog;
 
 use std::env;
@@ -53,11 +56,11 @@ use forms::FORMS;
 use mix::Mix;
 use peers::PEERS;
 
-const USAGE: &str = "usage: bench [run | counts | once | calls | linear | forms | \
+const USAGE: &str = "usage: bench [run | counts | once | static | calls | linear | forms | \
     netlist MIX NETS SEED CYCLES FOLDER | listing MIX NETS SEED ROWS FOLDER]";
 
 /// The tables of the library and its peers.
-const TABLES: [&str; 5] = ["run", "counts", "once", "calls", "linear"];
+const TABLES: [&str; 6] = ["run", "counts", "once", "static", "calls", "linear"];
 
 fn main() {
     let arguments: Vec<String> = env::args().skip(1).collect();
@@ -94,6 +97,7 @@ fn print_tables(tables: &[&str]) {
                 once::print_times(PEERS);
                 once::print_counts(PEERS);
             }
+            "static" => statics::print_tables(),
             "calls" => calls::print_counts(),
             _ => {
                 linear::print_checking();
@@ -119,6 +123,10 @@ fn count(words: &[&str]) {
         ["run", case, peer, k] => counting::one_run(number(case), peer, number(k)),
         ["once", mix, nets, peer, times] => {
             once::some_calls(named_mix(mix), number(nets), peer, number(times));
+        }
+        ["static", case, peer, k] => statics::one_run(number(case), peer, number(k)),
+        ["static_once", mix, nets, peer, times] => {
+            statics::some_calls(named_mix(mix), number(nets), peer, number(times));
         }
         ["call", name, mix, library, times] => {
             calls::some_calls(name, named_mix(mix), library, number(times));

@@ -1,6 +1,5 @@
 //! `run` with K = 1: what a call costs that takes a single cycle.
 
-use std::hint::black_box;
 use std::time::Instant;
 
 use crate::agree::assert_agree;
@@ -11,13 +10,11 @@ use crate::libraries::takes;
 use crate::mix::{Mix, MIXES};
 use crate::peer::Peer;
 use crate::peers::named;
+use crate::repeated::{Calls, ROWS};
 use crate::rounds::{low_and_median, ratio, NO_FIGURE};
 
 /// The numbers of nets.
 const NETS: [usize; 3] = [100, 1100, 8192];
-
-/// The rows that the calls take in turn.
-const ROWS: usize = 64;
 
 /// How often each peer is timed, in turn with the others, and about how many nets
 /// are worked out in the calls that are timed together.
@@ -25,40 +22,11 @@ const ROUNDS: usize = 301;
 const TIMED_NETS: usize = 32768;
 
 /// The two numbers of calls that are counted.
-const FEW: usize = 8;
-const MANY: usize = 40;
-
-/// A peer's calls on one netlist, each with the next row and the state that the
-/// last one left.
-struct Calls {
-    peer: Peer,
-    state: Vec<u8>,
-    outputs: Vec<u8>,
-    next: usize,
-}
-
-impl Calls {
-    fn new(peer: Peer, bytes: &Bytes) -> Calls {
-        Calls {
-            peer,
-            state: bytes.start.clone(),
-            outputs: bytes.outputs(1),
-            next: 0,
-        }
-    }
-
-    fn make(&mut self, bytes: &Bytes, times: usize) {
-        for _ in 0..times {
-            let row = self.next % ROWS;
-            let answer = bytes.run_from(self.peer, row, 1, &mut self.state, &mut self.outputs);
-            black_box((answer, &self.state, &self.outputs));
-            self.next += 1;
-        }
-    }
-}
+pub const FEW: usize = 8;
+pub const MANY: usize = 40;
 
 /// The netlist of a mix and a number of nets.
-fn case(mix: Mix, nets: usize) -> Case {
+pub fn case(mix: Mix, nets: usize) -> Case {
     Case {
         mix,
         nets,
@@ -113,8 +81,8 @@ fn times(case: Case, peers: &[Peer]) -> Vec<Vec<f64>> {
             times.push(time * 1e9 / (case.nets * number) as f64);
         }
     }
-    let first = &timed[0].0.state;
-    assert!(timed.iter().all(|(calls, _)| calls.state == *first));
+    let first = timed[0].0.state();
+    assert!(timed.iter().all(|(calls, _)| calls.state() == first));
     times
 }
 

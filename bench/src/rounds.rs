@@ -11,28 +11,33 @@ use crate::peer::Peer;
 /// The nanoseconds of each peer for each net and cycle, in each round:
 /// `times[peer][round]`. Of a peer that does not take the image there are none.
 pub fn rounds(bytes: &Bytes, k: usize, peers: &[Peer], rounds: usize) -> Vec<Vec<f64>> {
-    let work = (bytes.sizes.nets * k) as f64;
-    let mut times = vec![Vec::new(); peers.len()];
-    let mut outputs = bytes.outputs(k);
-    let timed = peers.iter().zip(&mut times);
+    let runs: Vec<_> = peers.iter().map(|peer| (*peer, bytes)).collect();
+    rounds_of(&runs, k, rounds)
+}
+
+/// The same of runs that have each a peer and bytes of its own.
+pub fn rounds_of(runs: &[(Peer, &Bytes)], k: usize, rounds: usize) -> Vec<Vec<f64>> {
+    let mut times = vec![Vec::new(); runs.len()];
+    let timed = runs.iter().zip(&mut times);
+    let timed = timed.filter(|((peer, bytes), _)| takes(peer.name, &bytes.image));
     let mut timed: Vec<_> = timed
-        .filter(|(peer, _)| takes(peer.name, &bytes.image))
+        .map(|((peer, bytes), times)| (peer, bytes, bytes.outputs(k), times))
         .collect();
     for _ in 0..rounds {
-        for (peer, times) in &mut timed {
+        for (peer, bytes, outputs, times) in &mut timed {
             let mut state = bytes.start.clone();
             let start = Instant::now();
-            let answer = bytes.run(**peer, k, &mut state, &mut outputs);
+            let answer = bytes.run(**peer, k, &mut state, outputs);
             let time = start.elapsed().as_secs_f64();
             black_box((answer, &state, &outputs));
-            times.push(time * 1e9 / work);
+            times.push(time * 1e9 / (bytes.sizes.nets * k) as f64);
         }
     }
     times
 }
 
 /// The median of a list that is not empty.
-fn median(list: &[f64]) -> f64 {
+pub fn median(list: &[f64]) -> f64 {
     let mut sorted = list.to_vec();
     sorted.sort_by(f64::total_cmp);
     let middle = sorted.len() / 2;
@@ -43,7 +48,7 @@ fn median(list: &[f64]) -> f64 {
 }
 
 /// The lowest of a list.
-fn lowest(list: &[f64]) -> f64 {
+pub fn lowest(list: &[f64]) -> f64 {
     list.iter().copied().fold(f64::INFINITY, f64::min)
 }
 

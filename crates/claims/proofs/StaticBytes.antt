@@ -10,7 +10,7 @@ use borrow.Author.Tests.{eqb-true, eqb-false, lt-ltb}
 use Rattle.gates.specs.Kinds.{REG}
 use Rattle.gates.specs.Rules.{value, mark, byte}
 use Rattle.unknowns.specs.Covering.{Covers, CoversAll}
-use Rattle.unknowns.proofs.CodesAll.{IsCode, a-byte, unknown, untrusted, by-number}
+use Rattle.unknowns.proofs.SixCodes.{IsCode, a-byte, unknown, untrusted, by-number}
 use Rattle.unknowns.proofs.Covered.{covers-itself, covers-every, covers-trusted}
 use Rattle.image.specs.Image.{sizesOf, netsOf}
 use Rattle.image.proofs.Pairs.{pairs-places, pairs-getD, pairs-length}

@@ -20,7 +20,7 @@ use Rattle.cycle.specs.Cycle.{plain, Cycle, cyclesOf, FirstFlow}
 use Rattle.cycle.specs.Calls.{done, start, starts, asRun, runRefusal, runOf}
 use Rattle.cycle.proofs.Cycles.{Related, ClearAfter, registers-related, cycles-related, outputs-of-related, state-after-related, first-clear}
 use Rattle.cycle.proofs.Calls.{either-way, power-up-accepted, power-up-refused, power-up-none, powered-up, run-accepted, run-refused, run-none, start-code}
-use Rattle.static_run.specs.StaticCalls.{static, staticStart, staticStarts, staticPowerUpRefusal, staticPowerUpOf, staticRunRefusal, staticRunOf}
+use Rattle.static_run.specs.StaticCalls.{static, staticStart, staticStarts, staticPowerUpRefusal, staticRunRefusal, staticRunOf}
 use Rattle.static_run.proofs.StaticRefused.{static-power-up-accepted, static-power-up-refused, static-accepted, static-refused}
 use Rattle.claims.specs.PowerUp.{Wakes}
 use Rattle.claims.specs.StaticRuns.{CoversCycle, SoundCycles, SoundRun, StaticSound, StaticWakes, TwoRuns, AllCovered, no-more, one-more, SoundRuns, nil, cons, StaticRuns}

@@ -1,29 +1,25 @@
 -- The promises about static runs, used by their parts, as in Held.
 use Prim.Native.Nat.{ℕ, _/_, _%_, _≤_, _<_}
-use native.Mathlib.Omega.{arith}
-use mathlib.Core.Logic.{_↔_}
 use mathlib.Core.Path.{_≡_, refl}
-use mathlib.Core.List.{List, [], _∷_, List·Memᴰ, List·Memᴰ·head, List·Memᴰ·tail, Forall₂, Forall₂·nil, Forall₂·cons}
+use mathlib.Core.List.{List, [], _∷_, List·Memᴰ, List·Memᴰ·head, List·Memᴰ·tail, Forall₂}
 use mathlib.Core.Option.{none}
-use mathlib.Core.Bool.{true, false}
-use lib.Dec.{lit≤, lit<}
+use mathlib.Core.Bool.{true}
 use lib.ListN.{length, getD}
 use Rattle.gates.specs.Kinds.{REG}
 use Rattle.gates.specs.Rules.{value, mark, gateByte}
 use Rattle.unknowns.specs.Filling.{isCode, known, fillings, staticByte}
 use Rattle.unknowns.specs.Covering.{Covers, CoversAll}
-use Rattle.unknowns.specs.Exactness.{SaysNoMore}
 use Rattle.image.specs.Image.{sizesOf, netsOf}
 use Rattle.checking.specs.Check.{checkRefusal}
 use Rattle.cycle.specs.Cycle.{clear, plain, Cycle, cyclesOf}
-use Rattle.cycle.specs.Calls.{done, powerUpOf, Ran, runRefusal, runOf}
+use Rattle.cycle.specs.Calls.{done, powerUpOf, runRefusal, runOf}
 use Rattle.static_run.specs.StaticCalls.{static, staticPowerUpOf, staticRunRefusal, staticRunOf}
 use Rattle.claims.specs.Accepted.{NoneAbove3}
 use Rattle.claims.specs.NetBytes.{netOf, Counted}
 use Rattle.claims.specs.PowerUp.{Wakes}
 use Rattle.claims.specs.InBytes.{clearAfter}
 use Rattle.claims.specs.StaticRuns.{CoversCycle, SoundRun, TwoRuns, no-more, one-more, SoundRuns}
-use Rattle.claims.specs.StaticBytes.{FilledBy, ToldBy, ClearToo}
+use Rattle.claims.specs.StaticBytes.{FilledBy, ToldBy}
 use Rattle.claims.specs.StaticPlain.{NoStart2}
 use Rattle.claims.proofs.Promised.{promised}
 

@@ -12,7 +12,7 @@ use Rattle.gates.specs.Kinds.{NOT}
 use Rattle.unknowns.specs.Widths.{ruleBy, codeBy}
 use Rattle.image.specs.Pins.{inverted, pinNet}
 use Rattle.image.proofs.PinNets.{by-pin, plain-net, plain-pin, top-net, top-pin}
-use Rattle.unknowns.proofs.Wider.{const-code, rule-code}
+use Rattle.unknowns.proofs.ByWidth.{const-code, rule-code}
 use Rattle.cycle.specs.Cycle.{pinByte}
 use Rattle.cycle.proofs.Deciding.{same-or-not}
 use Rattle.inverses.specs.Inverses.{putPair, putBoth, Both}

@@ -12,7 +12,7 @@ use lib.Seq.{getD-drop, getD-take, length-take-le}
 use Rattle.gates.specs.Kinds.{CONST, INPUT, REG, NOT}
 use Rattle.gates.specs.Rules.{mark}
 use Rattle.unknowns.specs.Widths.{ruleBy, codeBy, Coded}
-use Rattle.unknowns.proofs.Wider.{const-code, rule-code}
+use Rattle.unknowns.proofs.ByWidth.{const-code, rule-code}
 use Rattle.image.specs.declared.image.Net.{Net}
 use Rattle.image.specs.Image.{sizesOf, net, kindAt, operandAt, netAt, netsOf, count}
 use Rattle.image.proofs.Nets.{net-in, length-nets}

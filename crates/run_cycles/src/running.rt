@@ -16,7 +16,6 @@ use settling::settle_nets;
 use unknowns::wide_table_for;
 ghost use mathlib.Core.Path.{_≡_};
 ghost use mathlib.Core.Logic.{_⊎_};
-ghost use mathlib.Core.Option.{none};
 ghost use lib.ListN.{length, take};
 ghost use Prim.Native.Nat.{_*_, _≤_};
 ghost use Rattle.unknowns.specs.Widths.{ruleBy, Tables};

@@ -10,7 +10,7 @@ use lib.ListN.{length, getD}
 use borrow.Author.Tests.{eq-eqb, ne-eqb, le-leb, leb-true, leb-false}
 use Rattle.gates.specs.Kinds.{CONST, NOT}
 use Rattle.unknowns.specs.Widths.{ruleBy, codeBy}
-use Rattle.unknowns.proofs.Wider.{const-code, not-known, policy-unread, rule-code}
+use Rattle.unknowns.proofs.ByWidth.{const-code, not-known, policy-unread, rule-code}
 use Rattle.image.specs.declared.image.Net.{Net}
 use Rattle.image.specs.Image.{sizesOf, net, kindAt, operandAt, netAt}
 use Rattle.image.specs.Pins.{pinNet}

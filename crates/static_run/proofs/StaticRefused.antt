@@ -7,7 +7,6 @@ use mathlib.Core.Option.{none, some}
 use mathlib.Core.Bool.{true, false}
 use lib.ListN.{length}
 use borrow.Author.Tests.{not-true}
-use Rattle.gates.specs.Rules.{mark}
 use Rattle.unknowns.specs.Filling.{noCode, isCode}
 use Rattle.unknowns.specs.Widths.{ruleBy, codeBy}
 use Rattle.image.specs.Image.{sizesOf, netsOf}

@@ -13,7 +13,7 @@ use Rattle.gates.proofs.EachCode.{both, each}
 use Rattle.gates.proofs.Laws.{gates-monotone, below-value, below-mark, gates-code}
 use Rattle.unknowns.specs.Filling.{fillings, filled, allValue, anyMark, codeOf, staticByte}
 use Rattle.unknowns.specs.Covering.{Covers, Fills}
-use Rattle.unknowns.proofs.CodesAll.{IsCode, a-byte, unknown, untrusted, is-code, byte-code}
+use Rattle.unknowns.proofs.SixCodes.{IsCode, a-byte, unknown, untrusted, is-code, byte-code}
 
 -- a byte covers itself
 pub covers-itself : {x : ℕ} → x ≤ 3 → Covers x x

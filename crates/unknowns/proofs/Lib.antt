@@ -1,8 +1,8 @@
 -- Laws of codes, of the rule by filling, and of its tables.
-pub mod CodesAll
+pub mod SixCodes
 pub mod Covered
 pub mod Exact
 pub mod Known
 pub mod Places
 pub mod Outs
-pub mod Wider
+pub mod ByWidth

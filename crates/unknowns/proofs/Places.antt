@@ -11,7 +11,7 @@ use Rattle.gates.specs.Kinds.{MUX}
 use Rattle.gates.proofs.Entries.{every, entry}
 use Rattle.unknowns.specs.Filling.{staticByte}
 use Rattle.unknowns.specs.Tables.{place, MuxTable, PairTable}
-use Rattle.unknowns.proofs.CodesAll.{IsCode, a-byte, unknown, untrusted, is-code, all6, each6}
+use Rattle.unknowns.proofs.SixCodes.{IsCode, a-byte, unknown, untrusted, is-code, all6, each6}
 
 -- the code at a place
 abbrev pub codeAt : ℕ → ℕ

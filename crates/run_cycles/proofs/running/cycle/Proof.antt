@@ -1,5 +1,5 @@
 -- `run_cycles::running::cycle` meets its contract: the bytes of all nets are those of the cycle, and so are what is read off them.
-use Prim.Native.Nat.{_-_, _≤_}
+use Prim.Native.Nat.{_≤_}
 use native.Mathlib.Omega.{arith}
 use mathlib.Core.Path.{_≡_, refl, sym, ap, _∙_}
 use mathlib.Core.List.{map}

@@ -17,7 +17,7 @@ use Rattle.cycle.specs.Cycle.{cycleOf, FirstFlow}
 use Rattle.cycle.proofs.Calls.{ReadyOf}
 use Rattle.cycle.proofs.Runs.{product-fits, after, Running, run-begins, all-outputs, row-fits, row-ready, outputs-fit, run-goes-on, run-ends}
 use Rattle.settling.specs.Settling.{Prepared}
-use Rattle.unknowns.proofs.Wider.{plain-tabled}
+use Rattle.unknowns.proofs.ByWidth.{plain-tabled}
 use Rattle.run_cycles.specs.Taking.{rulesBy}
 use Rattle.run_cycles.proofs.Cycling.{IsCodeBy, taken-ready, ready-taken, width-kept}
 use Rattle.run_cycles.proofs.running.cycles.Statement.{statement}

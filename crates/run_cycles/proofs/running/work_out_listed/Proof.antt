@@ -1,5 +1,5 @@
 -- `run_cycles::running::work_out_listed` meets its contract: with the sources in place and the gates settled, the bytes are those of the cycle.
-use Prim.Native.Nat.{_-_, _≤_}
+use Prim.Native.Nat.{_≤_}
 use borrow.Author.Needs.{needs}
 use native.Mathlib.Omega.{arith}
 use mathlib.Core.Path.{_≡_, refl, sym, _∙_}

@@ -10,7 +10,7 @@ use Rattle.image.specs.Image.{sizesOf, net, kindAt, operandAt}
 use Rattle.image.specs.Pins.{pinNet}
 use Rattle.checking.proofs.Checked.{Checked, check-none}
 use Rattle.unknowns.specs.Widths.{codeBy}
-use Rattle.unknowns.proofs.Wider.{rule-code}
+use Rattle.unknowns.proofs.ByWidth.{rule-code}
 use Rattle.inverses.specs.Inverses.{Both}
 use Rattle.inverses.proofs.Places.{put-size, pin-place}
 use Rattle.settling.specs.Settling.{settledAt}

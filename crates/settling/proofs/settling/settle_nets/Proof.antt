@@ -1,6 +1,6 @@
 -- `settling::settling::settle_nets` meets its contract, at either width.
 use borrow.Author.Needs.{needs}
-use Rattle.unknowns.proofs.Wider.{other-width}
+use Rattle.unknowns.proofs.ByWidth.{other-width}
 use Rattle.settling.proofs.settling.settle_nets.Statement.{statement}
 use Rattle.settling.proofs.settling.settle_nets.Tie as tie
 

@@ -8,7 +8,6 @@ use Rattle.image.specs.declared.image.Net.{Net}
 use Rattle.image.specs.declared.image.Sizes.{Sizes}
 use Rattle.refusals.specs.Refusals.{refusalIn}
 use Rattle.checking.proofs.Checked.{check-none}
-use Rattle.cycle.specs.Calls.{start}
 use Rattle.cycle_parts.specs.Starting.{startBy, startsBy}
 use Rattle.static_run.specs.StaticCalls.{staticStart, staticStarts, staticPowerUpRefusal}
 use Rattle.static_run.proofs.StaticRefused.{static-power-up-accepted, static-power-up-refused, static-power-up-none}

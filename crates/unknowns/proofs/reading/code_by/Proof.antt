@@ -1,5 +1,5 @@
 -- `unknowns::reading::code_by` meets its contract, at either width.
-use Rattle.unknowns.proofs.Wider.{other-width}
+use Rattle.unknowns.proofs.ByWidth.{other-width}
 use Rattle.unknowns.proofs.reading.code_by.Statement.{statement}
 use Rattle.unknowns.proofs.reading.code_by.Tie as tie
 

@@ -1,7 +1,7 @@
 -- `unknowns::reading::code_by_4` meets its contract: the index is the place of its code, and the table has the gate's code there.
 use borrow.Author.Needs.{needs}
 use native.Mathlib.Omega.{arith}
-use Rattle.unknowns.proofs.Wider.{code-4}
+use Rattle.unknowns.proofs.ByWidth.{code-4}
 use Rattle.unknowns.proofs.reading.code_by_4.Statement.{statement}
 use Rattle.unknowns.proofs.reading.code_by_4.Tie as tie
 

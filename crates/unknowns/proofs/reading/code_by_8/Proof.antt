@@ -1,7 +1,7 @@
 -- `unknowns::reading::code_by_8` meets its contract: the index is the place of its code, and the table has the gate's code there.
 use borrow.Author.Needs.{needs}
 use native.Mathlib.Omega.{arith}
-use Rattle.unknowns.proofs.Wider.{code-8}
+use Rattle.unknowns.proofs.ByWidth.{code-8}
 use Rattle.unknowns.proofs.reading.code_by_8.Statement.{statement}
 use Rattle.unknowns.proofs.reading.code_by_8.Tie as tie
 

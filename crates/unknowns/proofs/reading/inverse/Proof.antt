@@ -2,7 +2,7 @@
 use native.Mathlib.Omega.{arith}
 use mathlib.Core.Path.{_∙_, sym}
 use lib.Dec.{lit<}
-use Rattle.unknowns.proofs.Wider.{code-4, not-plain, not-low, not-unknown}
+use Rattle.unknowns.proofs.ByWidth.{code-4, not-plain, not-low, not-unknown}
 use Rattle.unknowns.proofs.reading.inverse.Statement.{statement}
 use Rattle.unknowns.proofs.reading.inverse.Tie as tie
 

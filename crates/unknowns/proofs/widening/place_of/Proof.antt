@@ -8,7 +8,7 @@ use borrow.Author.Needs.{needs}
 use borrow.Author.Tests.{eqb-true}
 use Rattle.unknowns.specs.Filling.{isCode}
 use Rattle.unknowns.specs.Tables.{place}
-use Rattle.unknowns.proofs.CodesAll.{is-code, each6}
+use Rattle.unknowns.proofs.SixCodes.{is-code, each6}
 use Rattle.unknowns.proofs.widening.place_of.Statement.{statement}
 use Rattle.unknowns.proofs.widening.place_of.Tie as tie
 

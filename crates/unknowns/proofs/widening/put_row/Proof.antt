@@ -4,7 +4,7 @@ use native.Mathlib.Omega.{arith}
 use mathlib.Core.Path.{_∙_, sym}
 use borrow.Author.Needs.{needs}
 use Rattle.unknowns.specs.Widths.{Wide}
-use Rattle.unknowns.proofs.Wider.{wide-at, wide-next, row-right}
+use Rattle.unknowns.proofs.ByWidth.{wide-at, wide-next, row-right}
 use Rattle.unknowns.proofs.widening.put_row.Statement.{statement}
 use Rattle.unknowns.proofs.widening.put_row.Tie as tie
 

@@ -1,5 +1,4 @@
 -- `unknowns::widening::static_byte` meets its contract: the table of the kind has the code at the places of the pins' codes.
-use mathlib.Core.Path.{_≡_}
 use borrow.Author.Needs.{needs}
 use Rattle.unknowns.proofs.widening.static_byte.Statement.{statement}
 use Rattle.unknowns.proofs.widening.static_byte.Tie as tie

@@ -4,7 +4,7 @@ use native.Mathlib.Omega.{arith}
 use mathlib.Core.Path.{refl, sym}
 use borrow.Author.Needs.{needs}
 use Rattle.unknowns.specs.Widths.{Wide}
-use Rattle.unknowns.proofs.Wider.{wide-at, wide-begins, wide-tabled}
+use Rattle.unknowns.proofs.ByWidth.{wide-at, wide-begins, wide-tabled}
 use Rattle.unknowns.proofs.widening.wide_table.Statement.{statement}
 use Rattle.unknowns.proofs.widening.wide_table.Tie as tie
 

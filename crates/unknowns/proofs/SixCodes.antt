@@ -2,7 +2,7 @@
 use Prim.Native.Nat.{ℕ, zero, suc, _≤_, _<_}
 use native.Mathlib.Omega.{arith}
 use mathlib.Core.Path.{_≡_, refl}
-use mathlib.Core.Bool.{Bool, true, false, _&&_, _||_, not}
+use mathlib.Core.Bool.{Bool, true, false, _&&_, _||_}
 use lib.Dec.{eqb, ltb, lit≤, lit<}
 use borrow.Author.Tests.{not-true, eqb-false, ltb-false, ne-eqb, le-ltb}
 use Rattle.gates.proofs.EachCode.{both, all4, each}

@@ -3,20 +3,20 @@ use Prim.Native.Nat.{ℕ, zero, suc, _+_, _-_, _*_, _≤_, _<_, _/_, _%_}
 use native.Mathlib.Nat.{eq-or-lt-of-le}
 use native.Mathlib.Omega.{arith}
 use mathlib.Core.Logic.{_⊎_, ⊎-elim, inl, inr}
-use mathlib.Core.Path.{_≡_, refl, sym, ap, _∙_}
+use mathlib.Core.Path.{_≡_, refl, sym, _∙_}
 use mathlib.Core.List.{List, flatMap}
 use mathlib.Core.Bool.{Bool, true, false, cond}
-use lib.Dec.{eqb, ltb, lit≤, lit<}
-use lib.ListN.{length, getD, set, length-set}
+use lib.Dec.{eqb, ltb, lit≤}
+use lib.ListN.{length, set, length-set}
 use lib.Seq.{getD-set-same, getD-set-other}
 use borrow.Author.Tests.{lt-ltb, ltb-true, ne-eqb}
 use Rattle.gates.specs.Kinds.{NOT, OUT}
 use Rattle.gates.specs.Rules.{value, mark, byte, notByte, gateByte}
-use Rattle.gates.specs.Table.{codeIndex, GateTable}
+use Rattle.gates.specs.Table.{GateTable}
 use Rattle.gates.proofs.Laws.{gates-code}
 use Rattle.unknowns.specs.Filling.{isCode, fillings, filled, codeOf, staticByte}
 use Rattle.unknowns.specs.Widths.{ruleBy, codeBy, widthIndex, Tabled, Wide}
-use Rattle.unknowns.proofs.CodesAll.{IsCode, a-byte, unknown, untrusted, is-code, byte-code, code-small}
+use Rattle.unknowns.proofs.SixCodes.{IsCode, a-byte, unknown, untrusted, is-code, byte-code, code-small}
 use Rattle.unknowns.proofs.Known.{static-known, static-code}
 use Rattle.unknowns.proofs.Outs.{out-unread}
 
