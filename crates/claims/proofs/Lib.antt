@@ -27,6 +27,7 @@ pub mod ClearRun
 pub mod Waking
 pub mod UnknownStart
 pub mod DoubledRun
+pub mod StaticNets
 pub mod StaticCovered
 pub mod StaticRuns
 pub mod StaticBytes

@@ -22,7 +22,7 @@ use Rattle.cycle.proofs.Ruling.{sight, pin-same, out-passes-on}
 use Rattle.claims.specs.NetBytes.{netOf, placeOf, Counted, HasByte, const, input, reg, not, and, or, xor, mux, out, NetBytesAll, RuledBytesAll}
 
 -- the first of what is left of a list
-first-left : (l : List ℕ) (n : ℕ) {r : List ℕ} → r ≡ drop n l → getD l n 0 ≡ getD r 0 0
+pub first-left : (l : List ℕ) (n : ℕ) {r : List ℕ} → r ≡ drop n l → getD l n 0 ≡ getD r 0 0
 first-left l n e = rw (e, getD-drop n l 0 0, add-zero)
 
 module _ {s : List ℕ} (i : ℕ) (h : i < sizesOf s .nets) where

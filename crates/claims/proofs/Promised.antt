@@ -26,6 +26,7 @@ use Rattle.claims.proofs.ClearRun
 use Rattle.claims.proofs.UnknownStart
 use Rattle.claims.proofs.DoubledRun
 use Rattle.unknowns.proofs.Exact
+use Rattle.claims.proofs.StaticNets
 use Rattle.claims.proofs.StaticRuns
 use Rattle.claims.proofs.StaticBytes
 use Rattle.claims.proofs.StaticPlain
@@ -73,6 +74,7 @@ promised =
       bound-reached = Bound.bound-reached;
       demand3 = TwoRun.demand3;
       relations-mean = Meaning.relations-mean;
+      static-nets = StaticNets.static-nets;
       static-sound = StaticRuns.static-sound;
       static-wakes = StaticRuns.static-wakes;
       static-runs = StaticRuns.static-runs;

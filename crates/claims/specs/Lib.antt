@@ -19,6 +19,7 @@ pub mod Pairing
 pub mod TwoRun
 pub mod InBytes
 pub mod UnknownStart
+pub mod StaticNets
 pub mod StaticRuns
 pub mod StaticBytes
 pub mod StaticPlain

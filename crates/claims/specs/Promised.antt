@@ -23,6 +23,7 @@ use Rattle.claims.specs.Pairing.{Demand2}
 use Rattle.claims.specs.TwoRun.{Demand3}
 use Rattle.claims.specs.InBytes.{ClearStays, StepsAgree, DoubledShows}
 use Rattle.claims.specs.UnknownStart.{UnknownStarts}
+use Rattle.claims.specs.StaticNets.{StaticNetsAll}
 use Rattle.claims.specs.StaticRuns.{StaticSound, StaticWakes, StaticRuns}
 use Rattle.claims.specs.StaticBytes.{StaticClear, StaticStartsAll}
 use Rattle.claims.specs.StaticPlain.{StaticPlain}
@@ -109,7 +110,9 @@ pub record Promised : Type 0 where
   pub demand3 : Demand3
   -- "Agree", by which that is said, means of bytes 0 to 3 equal marks, and equal values where the mark is 0.
   pub relations-mean : RelationsMean
-  -- STATIC RUNS (document 02, L4). What a static run says holds of every run that it covers: in every cycle, for every net, output and register, from any covered state.
+  -- STATIC RUNS (document 02, L4). In every cycle of a static run each net has the code of its kind, by filling, and its answer, outputs and state are read off its cycles.
+  pub static-nets : StaticNetsAll
+  -- What a static run says holds of every run that it covers: in every cycle, for every net, output and register, from any covered state.
   pub static-sound : StaticSound
   -- What static power-up leaves covers power-up, and every state with which the array may wake.
   pub static-wakes : StaticWakes

@@ -1,23 +1,25 @@
 -- The promises about static runs, used by their parts, as in Held.
-use Prim.Native.Nat.{ℕ, _/_, _%_, _≤_, _<_}
+use Prim.Native.Nat.{ℕ, _+_, _/_, _%_, _≤_, _<_}
 use mathlib.Core.Path.{_≡_, refl}
 use mathlib.Core.List.{List, [], _∷_, List·Memᴰ, List·Memᴰ·head, List·Memᴰ·tail, Forall₂}
 use mathlib.Core.Option.{none}
 use mathlib.Core.Bool.{true}
-use lib.ListN.{length, getD}
-use Rattle.gates.specs.Kinds.{REG}
+use lib.ListN.{length, getD, take, drop}
+use Rattle.gates.specs.Kinds.{CONST, INPUT, REG, NOT, OUT}
 use Rattle.gates.specs.Rules.{value, mark, gateByte}
 use Rattle.unknowns.specs.Filling.{isCode, known, fillings, staticByte}
 use Rattle.unknowns.specs.Covering.{Covers, CoversAll}
 use Rattle.image.specs.Image.{sizesOf, netsOf}
 use Rattle.checking.specs.Check.{checkRefusal}
-use Rattle.cycle.specs.Cycle.{clear, plain, Cycle, cyclesOf}
+use Rattle.cycle.specs.Cycle.{pinByte, clear, plain, Cycle, cyclesOf, outputsOf, stateAfter, firstFlow}
 use Rattle.cycle.specs.Calls.{done, powerUpOf, runRefusal, runOf}
 use Rattle.static_run.specs.StaticCalls.{static, staticPowerUpOf, staticRunRefusal, staticRunOf}
 use Rattle.claims.specs.Accepted.{NoneAbove3}
-use Rattle.claims.specs.NetBytes.{netOf, Counted}
+use Rattle.claims.specs.NetBytes.{netOf, placeOf, Counted}
 use Rattle.claims.specs.PowerUp.{Wakes}
 use Rattle.claims.specs.InBytes.{clearAfter}
+use Rattle.claims.specs.Verdicts.{Judged}
+use Rattle.claims.specs.StaticNets.{StaticNets, StaticCycles}
 use Rattle.claims.specs.StaticRuns.{CoversCycle, SoundRun, TwoRuns, no-more, one-more, SoundRuns}
 use Rattle.claims.specs.StaticBytes.{FilledBy, ToldBy}
 use Rattle.claims.specs.StaticPlain.{NoStart2}
@@ -29,6 +31,41 @@ made code byte e v m s = record { exists = e; values = v; marks = m; small = s }
 
 parts : {code byte : ℕ} → Covers code byte → (isCode code ≡ true) × (known code ≡ true → value byte ≡ value code) × (mark byte ≡ true → mark code ≡ true) × (byte ≤ 3)
 parts c = (c .exists, c .values, c .marks, c .small)
+
+-- CYCLES, net by net. A run of two cycles is read off two, the second from the state that the first left
+two-cycles : {s rows st : List ℕ} {c d : Cycle} → StaticCycles s 2 rows st (c ∷ d ∷ [])
+    → StaticNets s (take (sizesOf s .inputs) rows) st c × StaticNets s (take (sizesOf s .inputs) (drop (sizesOf s .inputs) rows)) (c .state) d
+two-cycles (StaticCycles.cons p (StaticCycles.cons q r)) = (p, q)
+
+read-off : (s st : List ℕ) (k : ℕ) (rows outputs : List ℕ) (h : staticRunRefusal s st k rows outputs ≡ none)
+    → let r = promised .static-nets .run s st k rows outputs h in
+    StaticCycles s k rows st (r .cycles) × (staticRunOf s st k rows outputs .answer ≡ done (firstFlow 0 (r .cycles)))
+    × (staticRunOf s st k rows outputs .state ≡ stateAfter st (r .cycles)) × (staticRunOf s st k rows outputs .outputs ≡ outputsOf (r .cycles))
+read-off s st k rows outputs h = let r = promised .static-nets .run s st k rows outputs h in (r .are, r .answer, r .state, r .output-codes)
+
+-- a gate has the code of the rule, a source its own, and what becomes of them
+gate-code : {s row st : List ℕ} {c : Cycle} → StaticNets s row st c → (i : ℕ) → i < sizesOf s .nets → NOT ≤ netOf s i .kind
+    → let pin = pinByte staticByte (c .bytes) in
+    let x = netOf s i in
+    getD (c .bytes) i 0 ≡ staticByte (x .kind) (pin (x .a)) (pin (x .b)) (pin (x .c))
+gate-code n = n .gate
+
+source-codes : {s row st : List ℕ} {c : Cycle} → StaticNets s row st c → (i : ℕ) → i < sizesOf s .nets
+    → (netOf s i .kind ≡ CONST → getD (c .bytes) i 0 ≡ netOf s i .a) × (netOf s i .kind ≡ INPUT → getD (c .bytes) i 0 ≡ getD row (placeOf INPUT s i) 0)
+    × (netOf s i .kind ≡ REG → getD (c .bytes) i 0 ≡ getD st (placeOf REG s i) 0)
+source-codes n i h = (n .constant i h, n .input i h, n .register i h)
+
+becomes : {s row st : List ℕ} {c : Cycle} → StaticNets s row st c
+    → (length (c .bytes) ≡ sizesOf s .nets) × Judged (netsOf s) (c .bytes) (c .verdict) × (length (c .outputs) ≡ sizesOf s .outputs) × (length (c .state) ≡ sizesOf s .registers)
+becomes n = (n .nets, n .verdict, n .outputs, n .registers)
+
+shown-and-clocked : {s row st : List ℕ} {c : Cycle} → StaticNets s row st c → (i : ℕ) → i < sizesOf s .nets
+    → (netOf s i .kind ≡ OUT → Counted OUT s i (c .outputs) (getD (c .bytes) i 0))
+    × (netOf s i .kind ≡ REG → Counted REG s i (c .state) (pinByte staticByte (c .bytes) (netOf s i .a)))
+shown-and-clocked n i h = (n .output i h, n .clock i h)
+
+pins-read : (bs : List ℕ) (j : ℕ) → j < 32768 → (pinByte staticByte bs j ≡ getD bs j 0) × (pinByte staticByte bs (32768 + j) ≡ staticByte NOT (getD bs j 0) 0 0)
+pins-read bs j h = let p = promised .static-nets .pins in (p .upright bs j h, p .inverted bs j)
 
 -- ONE RUN
 same-refusal : (s st st′ : List ℕ) (k : ℕ) (codes rows b b′ : List ℕ) → CoversAll st st′ → CoversAll codes rows → length b ≡ length b′
