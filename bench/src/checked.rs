@@ -8,24 +8,28 @@ use tracker::Sizes;
 /// takes it. The answer is as the library's.
 #[inline]
 pub fn checked(call: Call, cycles: impl FnOnce(Call, Sizes) -> First) -> u64 {
-    answer(check_run(&call), call, cycles)
+    let k = call.k;
+    match check_run(&call) {
+        Err(refusal) => refusal,
+        Ok(sizes) => answer(cycles(call, sizes), k),
+    }
 }
 
 /// The same for a static run.
 #[inline]
 pub fn checked_codes(call: Call, cycles: impl FnOnce(Call, Sizes) -> First) -> u64 {
-    answer(check_static_run(&call), call, cycles)
+    let k = call.k;
+    match check_static_run(&call) {
+        Err(refusal) => refusal,
+        Ok(sizes) => answer(cycles(call, sizes), k),
+    }
 }
 
-/// The answer of a call by what its check gave.
+/// The answer of k cycles with a first flow, or of a clear verdict.
 #[inline]
-fn answer(check: Result<Sizes, u64>, call: Call, cycles: impl FnOnce(Call, Sizes) -> First) -> u64 {
-    let k = call.k as u64;
-    match check {
-        Err(refusal) => refusal,
-        Ok(sizes) => match cycles(call, sizes) {
-            Some((cycle, net)) => cycle as u64 * 65536 + net as u64,
-            None => k * 65536 + CLEAR,
-        },
+fn answer(first: First, k: usize) -> u64 {
+    match first {
+        Some((cycle, net)) => cycle as u64 * 65536 + net as u64,
+        None => k as u64 * 65536 + CLEAR,
     }
 }

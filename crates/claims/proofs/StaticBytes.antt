@@ -6,7 +6,7 @@ use mathlib.Core.List.{List}
 use mathlib.Core.Bool.{Bool, true, false}
 use lib.Dec.{eqb, lit≤}
 use lib.ListN.{length, getD}
-use borrow.Author.Tests.{eqb-true, eqb-false, lt-ltb}
+use borrow.Author.Tests.{not-true, eqb-true, eqb-false, lt-ltb, ltb-true}
 use Rattle.gates.specs.Kinds.{REG}
 use Rattle.gates.specs.Rules.{value, mark, byte}
 use Rattle.unknowns.specs.Covering.{Covers, CoversAll}
@@ -21,9 +21,10 @@ use Rattle.cycle.proofs.Selections.{registers-selected}
 use Rattle.static_run.specs.StaticCalls.{staticStart, staticStarts, staticPowerUpOf}
 use Rattle.static_run.proofs.StaticRefused.{static-power-up-none, static-power-up-accepted}
 use Rattle.claims.specs.NetBytes.{netOf, Counted}
-use Rattle.claims.specs.StaticBytes.{FilledBy, ToldBy, StaticClear, StaticStartsAll}
+use Rattle.claims.specs.StaticBytes.{FilledBy, ToldBy, StaticClear, StaticPowerUpAll}
 use Rattle.claims.proofs.NetBytes.{selected}
-use Rattle.claims.proofs.StaticRuns.{static-sound}
+use Rattle.claims.proofs.Accepted.{code}
+use Rattle.claims.proofs.StaticRuns.{static-sound, static-wakes}
 use Rattle.claims.proofs.Taken.{static-run-taken}
 
 -- FROM FILLING TO COVERING
@@ -35,7 +36,7 @@ filled-covered untrusted f g k = covers-every (k refl .1)
 covered : {codes bytes : List ℕ} → FilledBy codes bytes → CoversAll codes bytes
 covered {codes} {bytes} f =
     pairs-places codes bytes 0 (f .size)
-    (λ i l. let c = f .codes-are i l in filled-covered (by-number (getD codes i 0) (c .0) (c .1)) (f .known i l) (f .unknown i l) (f .untrusted i l))
+    (λ i l. let c = f .codes-are i l in filled-covered (by-number (getD codes i 0) (c .0) (c .1)) (f .known i l) (f .unknown-trusted i l) (f .unknown-untrusted i l))
 
 -- AND FROM COVERING TO WHAT IS TOLD
 same-bit : (x y : ℕ) → x < 2 → y < 2 → eqb x 1 ≡ eqb y 1 → x ≡ y
@@ -58,18 +59,51 @@ mark-told {x} {y} c h = by (eqb (y / 2 % 2) 1) refl
     by false t = let z = eqb-false (y / 2 % 2) 1 t in omega (arith, z, c .small)
 
 told : {codes bytes : List ℕ} → CoversAll codes bytes → ToldBy codes bytes
-told h =
+told {codes} {bytes} h =
     record {
       size = pairs-length h;
-      values = λ i l. value-told (pairs-getD i 0 (covers-itself (lit≤ tt)) h);
-      marks = λ i l. mark-told (pairs-getD i 0 (covers-itself (lit≤ tt)) h);
+      codes-are = λ i l. code (getD codes i 0) .0 (not-true _ (at i .exists));
+      bytes-are = λ i l. at i .small;
+      values = λ i l. value-told (at i);
+      marks = λ i l. mark-told (at i);
     }
+  where
+    at : (i : ℕ) → Covers (getD codes i 0) (getD bytes i 0)
+    at i = pairs-getD i 0 (covers-itself (lit≤ tt)) h
+
+-- AND BACK
+told-covers : {x y : ℕ} → (x ≡ 5 → ⊥) × (x ≤ 6) → y ≤ 3 → (x ≤ 3 → y % 2 ≡ x % 2) → (x / 2 % 2 ≡ 0 → y / 2 ≡ 0) → Covers x y
+unfolding value mark
+told-covers {x} {y} c s v m =
+    record {
+      exists = rw (code x .1 c);
+      values = λ k. let e = v (omega (arith, ltb-true x 4 k)) in rw e;
+      marks = by (eqb (x / 2 % 2) 1) refl;
+      small = s;
+    }
+  where
+    by : (b : Bool) → eqb (x / 2 % 2) 1 ≡ b → eqb (y / 2 % 2) 1 ≡ true → eqb (x / 2 % 2) 1 ≡ true
+    by true e t = e
+    by false e t =
+        let z = eqb-false (x / 2 % 2) 1 e in
+        let u = eqb-true (y / 2 % 2) 1 t in
+        let o = m (omega (arith, z)) in
+        absurd (omega (arith, u, o))
+
+all-covered : {codes bytes : List ℕ} → ToldBy codes bytes → CoversAll codes bytes
+all-covered {codes} {bytes} t =
+    pairs-places codes bytes 0 (t .size) (λ i l. told-covers (t .codes-are i l) (t .bytes-are i l) (t .values i l) (t .marks i l))
 
 pub static-clear : StaticClear
-static-clear s st st′ k codes rows b b′ p q l h =
-    let sound = static-sound s st st′ k codes rows b b′ (covered p) (covered q) l in
-    let cycles = sound .accepted (static-run-taken s st k codes b h) in
-    record { answer = cycles .clears h; outputs = told (cycles .outputs); state = told (sound .state) }
+static-clear =
+    record {
+      run = λ s st st′ k codes rows b b′ p q l h.
+          let sound = static-sound s st st′ k codes rows b b′ (all-covered p) (covered q) l in
+          let cycles = sound .accepted (static-run-taken s st k codes b h) in
+          record { answer = cycles .clears h; outputs = told (cycles .outputs); state = told (sound .state) };
+      fills = λ codes bytes f. told (covered f);
+      wakes = λ s a st h w. let p = static-wakes s a a refl in told (p .wakes (sym (p .refusal) ∙ h) st w);
+    }
 
 -- POWER-UP
 register : {s : List ℕ} (st : List ℕ) → Checked s → length st ≡ sizesOf s .registers
@@ -83,7 +117,7 @@ start-codes : (staticStart 0 ≡ 0) × (staticStart 1 ≡ 1) × (staticStart 2 �
 unfolding staticStart start byte
 start-codes = (refl, refl, refl)
 
-pub static-starts : StaticStartsAll
+pub static-starts : StaticPowerUpAll
 unfolding staticStarts
 static-starts s st h l =
     let c = check-none s .0 h in

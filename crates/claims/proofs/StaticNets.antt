@@ -2,26 +2,32 @@
 use Prim.Native.Nat.{ℕ, zero, suc, _≤_, _<_}
 use native.Mathlib.Omega.{arith}
 use mathlib.Core.Path.{_≡_, refl, sym, _∙_}
-use mathlib.Core.List.{List}
+use mathlib.Core.List.{List, [], _∷_, flatMap}
 use lib.ListN.{getD}
 use borrow.Author.Tests.{ne-eqb}
 use Rattle.gates.specs.Kinds.{CONST, INPUT, REG, NOT}
-use Rattle.unknowns.specs.Filling.{staticByte}
+use Rattle.gates.specs.Rules.{value, mark, byte, andMark, orMark, xorMark, muxMark, notByte, andByte, orByte, xorByte, muxByte, gateByte}
+use Rattle.unknowns.specs.Filling.{fillings, filled, codeOf, staticByte}
 use Rattle.unknowns.proofs.Outs.{out-unread}
 use Rattle.image.specs.declared.image.Net.{Net}
-use Rattle.image.specs.Image.{sizesOf, net, netsOf}
+use Rattle.image.specs.Image.{sizesOf, net, netAt, netsFrom, netsOf, count, encode}
+use Rattle.image.specs.Pins.{pinNet}
+use Rattle.image.specs.Examples.{counter}
 use Rattle.image.proofs.Nets.{length-nets}
 use Rattle.image.proofs.PinNets.{top-net, top-pin}
+use Rattle.refusals.specs.Refusals.{badByte, badLength}
+use Rattle.net_checking.specs.NetCheck.{netRefusal}
+use Rattle.checking.specs.Check.{netsRefusal, checkRefusal}
 use Rattle.checking.proofs.Checked.{Checked}
-use Rattle.cycle.specs.Cycle.{Walk, pinByte, netByte, bytesOf, clocked, cycleOf, cyclesOf}
-use Rattle.cycle.specs.Calls.{asRun}
+use Rattle.cycle.specs.Cycle.{Walk, pinByte, netByte, past, walk, bytesOf, flow, verdictFrom, outputsFrom, registers, clocked, cycleOf, cyclesOf, outputsOf, stateAfter, firstOf, firstFlow}
+use Rattle.cycle.specs.Calls.{done, asRun}
 use Rattle.cycle.proofs.Ruling.{PolicyUnread, sight, plain-reads, cycle-ruled}
 use Rattle.cycle.proofs.Selections.{outputs-selected, registers-selected, selection-length}
 use Rattle.cycle.proofs.Walks.{bytes-length}
-use Rattle.static_run.specs.StaticCalls.{static}
+use Rattle.static_run.specs.StaticCalls.{static, staticRunRefusal, staticRunOf}
 use Rattle.static_run.proofs.StaticRefused.{static-none, static-accepted}
 use Rattle.claims.specs.NetBytes.{netOf}
-use Rattle.claims.specs.StaticNets.{StaticPins, StaticNets, StaticCycles, nil, cons, StaticNetsAll}
+use Rattle.claims.specs.StaticNets.{StaticPins, StaticNets, StaticCycles, nil, cons, staticCounted, StaticNetsAll}
 use Rattle.claims.proofs.NetBytes.{selected, first-left}
 use Rattle.claims.proofs.Verdicts.{verdicts}
 
@@ -80,11 +86,29 @@ unfolding cyclesOf
 static-cycles zero c = nil
 static-cycles (suc k) c = cons (static-cycle c _ _) (static-cycles k c)
 
+-- THE EXAMPLE, computed
+gating : Unit {0}
+unfolding value mark byte andMark orMark xorMark muxMark notByte andByte orByte xorByte muxByte gateByte fillings filled codeOf staticByte flatMap
+gating = tt
+
+refusing : Unit {0}
+unfolding sizesOf netAt netsFrom netsOf pinNet count netRefusal netsRefusal checkRefusal badByte badLength staticRunRefusal
+refusing = tt
+
+running : Unit {0}
+unfolding pinByte netByte past walk bytesOf verdictFrom outputsFrom registers clocked cycleOf cyclesOf outputsOf stateAfter firstOf firstFlow asRun staticRunOf
+running = tt
+
+static-example : staticCounted ≡ record { answer = done (record { cycle = 3; verdict = flow 5 }); state = 6 ∷ []; outputs = 0 ∷ 4 ∷ 4 ∷ 6 ∷ [] }
+unfolding gating refusing running counter encode staticCounted
+static-example = refl
+
 pub static-nets : StaticNetsAll
 unfolding asRun
 static-nets =
     record {
       pins = static-pins;
+      example = static-example;
       run = λ s st k rows outputs h.
           let a = static-accepted s st k rows outputs h in
           record {

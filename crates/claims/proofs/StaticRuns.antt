@@ -23,7 +23,7 @@ use Rattle.cycle.proofs.Calls.{either-way, power-up-accepted, power-up-refused,
 use Rattle.static_run.specs.StaticCalls.{static, staticStart, staticStarts, staticPowerUpRefusal, staticRunRefusal, staticRunOf}
 use Rattle.static_run.proofs.StaticRefused.{static-power-up-accepted, static-power-up-refused, static-accepted, static-refused}
 use Rattle.claims.specs.PowerUp.{Wakes}
-use Rattle.claims.specs.StaticRuns.{CoversCycle, SoundCycles, SoundRun, StaticSound, StaticWakes, TwoRuns, AllCovered, no-more, one-more, SoundRuns, nil, cons, StaticRuns}
+use Rattle.claims.specs.StaticRuns.{CoversCycle, SoundCycles, SoundRun, StaticSound, StaticWakes, RunPair, AllCovered, no-more, one-more, SoundRuns, nil, cons, StaticRuns}
 use Rattle.claims.proofs.StaticCovered.{covers-kept, covers-judged, same-refusal, same-power-up}
 use Rattle.claims.proofs.Waking.{wakes-powered}
 
@@ -136,7 +136,7 @@ static-wakes s a a′ l =
     record { refusal = rw (p, q); state = λ k. not-some (rw q at k); wakes = λ k st w. not-some (rw q at k) })
 
 -- LISTS OF RUNS
-all-sound : (s : List ℕ) {st st′ : List ℕ} {rs : List TwoRuns} → CoversAll st st′ → AllCovered rs → SoundRuns s st st′ rs
+all-sound : (s : List ℕ) {st st′ : List ℕ} {rs : List RunPair} → CoversAll st st′ → AllCovered rs → SoundRuns s st st′ rs
 all-sound s p no-more = nil
 all-sound s p (one-more {r} q l more) = let h = sound-run s (r .k) (r .outputs) (r .outputs′) p q l in cons h (all-sound s (h .state) more)
 

@@ -25,7 +25,7 @@ use Rattle.claims.specs.InBytes.{ClearStays, StepsAgree, DoubledShows}
 use Rattle.claims.specs.UnknownStart.{UnknownStarts}
 use Rattle.claims.specs.StaticNets.{StaticNetsAll}
 use Rattle.claims.specs.StaticRuns.{StaticSound, StaticWakes, StaticRuns}
-use Rattle.claims.specs.StaticBytes.{StaticClear, StaticStartsAll}
+use Rattle.claims.specs.StaticBytes.{StaticClear, StaticPowerUpAll}
 use Rattle.claims.specs.StaticPlain.{StaticPlain}
 use Rattle.claims.specs.Upright.{Uprights}
 
@@ -39,7 +39,7 @@ pub record Promised : Type 0 where
   pub steps-agree : StepsAgree
   -- A run of the doubled netlist shows, as plain values, the values and marks of the run on its source, where that is not refused, from power-up and from any state.
   pub doubled-shows : DoubledShows
-  -- A static run that is clear (document 02, L4) makes every run clear that fills its unknown bits, and known values are that run's values.
+  -- A static run that is clear (document 02, L4) makes every run clear that fills its unknown bits, and known values are that run's values; and so on from what both have left.
   pub static-clear : StaticClear
   -- THE TERMS of the statements below: the numbers of the kinds, a count of nets, a mark, the outputs of a cycle, the doubled size.
   pub terms : Terms
@@ -116,10 +116,10 @@ pub record Promised : Type 0 where
   pub static-sound : StaticSound
   -- What static power-up leaves covers power-up, and every state with which the array may wake.
   pub static-wakes : StaticWakes
-  -- So it holds over lists of runs, refused ones included, from power-up and from every state with which the array may wake.
+  -- So it holds over lists of runs, those included that are refused with 1 to 10, 12 or 14, from power-up and from every state with which the array may wake.
   pub static-runs : StaticRuns
   -- At static power-up a register without a start is an unknown untrusted bit, and every other has its start.
-  pub static-starts : StaticStartsAll
+  pub static-starts : StaticPowerUpAll
   -- Without unknown bits and without start 2 static calls give the answers and bytes of the plain ones.
   pub static-plain : StaticPlain
   -- At a gate no code that covers all fillings of its pins says more than the static rule.

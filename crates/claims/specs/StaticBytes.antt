@@ -10,6 +10,7 @@ use Rattle.checking.specs.Check.{checkRefusal}
 use Rattle.cycle.specs.Calls.{Ran, runOf}
 use Rattle.static_run.specs.StaticCalls.{staticPowerUpOf, staticRunOf}
 use Rattle.claims.specs.NetBytes.{netOf, Counted}
+use Rattle.claims.specs.PowerUp.{Wakes}
 use Rattle.claims.specs.InBytes.{clearAfter}
 
 -- bytes that fill codes: the code itself where it is 0 to 3, either value where it is 4, trusted, or 6, untrusted; there is no other code
@@ -17,12 +18,14 @@ pub record FilledBy (codes bytes : List ℕ) : Type 0 where
   pub size : length codes ≡ length bytes
   pub codes-are : (i : ℕ) → i < length codes → (getD codes i 0 ≡ 5 → ⊥) × (getD codes i 0 ≤ 6)
   pub known : (i : ℕ) → i < length codes → getD codes i 0 ≤ 3 → getD bytes i 0 ≡ getD codes i 0
-  pub unknown : (i : ℕ) → i < length codes → getD codes i 0 ≡ 4 → getD bytes i 0 ≤ 1
-  pub untrusted : (i : ℕ) → i < length codes → getD codes i 0 ≡ 6 → (2 ≤ getD bytes i 0) × (getD bytes i 0 ≤ 3)
+  pub unknown-trusted : (i : ℕ) → i < length codes → getD codes i 0 ≡ 4 → getD bytes i 0 ≤ 1
+  pub unknown-untrusted : (i : ℕ) → i < length codes → getD codes i 0 ≡ 6 → (2 ≤ getD bytes i 0) × (getD bytes i 0 ≤ 3)
 
--- bytes that codes tell of: a known value is that of the byte, and a byte is marked only where the code is
+-- bytes that codes tell of: a known value is that of the byte, and where the code is unmarked, which 4 is too, so is the byte. Every code is one, and every byte 0 to 3
 pub record ToldBy (codes bytes : List ℕ) : Type 0 where
   pub size : length codes ≡ length bytes
+  pub codes-are : (i : ℕ) → i < length codes → (getD codes i 0 ≡ 5 → ⊥) × (getD codes i 0 ≤ 6)
+  pub bytes-are : (i : ℕ) → i < length codes → getD bytes i 0 ≤ 3
   pub values : (i : ℕ) → i < length codes → getD codes i 0 ≤ 3 → getD bytes i 0 % 2 ≡ getD codes i 0 % 2
   pub marks : (i : ℕ) → i < length codes → getD codes i 0 / 2 % 2 ≡ 0 → getD bytes i 0 / 2 ≡ 0
 
@@ -32,16 +35,19 @@ pub record ClearToo (k : ℕ) (o o′ : Ran) : Type 0 where
   pub outputs : ToldBy (o .outputs) (o′ .outputs)
   pub state : ToldBy (o .state) (o′ .state)
 
--- a clear static run makes every run clear that fills it, its state and its rows; proved as `static-clear`
-abbrev pub StaticClear : Type 0
-StaticClear =
-    (s st st′ : List ℕ) (k : ℕ) (codes rows b b′ : List ℕ)
-    → FilledBy st st′ → FilledBy codes rows → length b ≡ length b′
-    → staticRunOf s st k codes b .answer ≡ clearAfter k
-    → ClearToo k (staticRunOf s st k codes b) (runOf s st′ k rows b′)
+-- a clear static run makes every run clear that fills its rows, from every state that its state tells of: from one that fills it, from one with which the array may wake, and
+-- from one that such a run has left. Proved as `static-clear`
+pub record StaticClear : Type 0 where
+  pub run :
+      (s st st′ : List ℕ) (k : ℕ) (codes rows b b′ : List ℕ)
+      → ToldBy st st′ → FilledBy codes rows → length b ≡ length b′
+      → staticRunOf s st k codes b .answer ≡ clearAfter k
+      → ClearToo k (staticRunOf s st k codes b) (runOf s st′ k rows b′)
+  pub fills : (codes bytes : List ℕ) → FilledBy codes bytes → ToldBy codes bytes
+  pub wakes : (s a st : List ℕ) → staticPowerUpOf s a .refusal ≡ none → Wakes s st → ToldBy (staticPowerUpOf s a .state) st
 
 -- POWER-UP. "a static power-up sets a register with start 2 to 6, others as before": R codes, and for the register of net i the one of its start, whatever the state held
-pub record StaticStarts (s st : List ℕ) : Type 0 where
+pub record StaticPowerUp (s st : List ℕ) : Type 0 where
   pub done : staticPowerUpOf s st .refusal ≡ none
   pub size : length (staticPowerUpOf s st .state) ≡ sizesOf s .registers
   pub start-0 : (i : ℕ) → i < sizesOf s .nets → netOf s i .kind ≡ REG → netOf s i .b ≡ 0 → Counted REG s i (staticPowerUpOf s st .state) 0
@@ -49,5 +55,5 @@ pub record StaticStarts (s st : List ℕ) : Type 0 where
   pub none-given : (i : ℕ) → i < sizesOf s .nets → netOf s i .kind ≡ REG → netOf s i .b ≡ 2 → Counted REG s i (staticPowerUpOf s st .state) 6
 
 -- proved as `static-starts`
-abbrev pub StaticStartsAll : Type 0
-StaticStartsAll = (s st : List ℕ) → checkRefusal s ≡ none → length st ≡ sizesOf s .registers → StaticStarts s st
+abbrev pub StaticPowerUpAll : Type 0
+StaticPowerUpAll = (s st : List ℕ) → checkRefusal s ≡ none → length st ≡ sizesOf s .registers → StaticPowerUp s st

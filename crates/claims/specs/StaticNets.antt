@@ -7,8 +7,9 @@ use lib.ListN.{length, getD, take, drop}
 use Rattle.gates.specs.Kinds.{CONST, INPUT, REG, NOT, OUT}
 use Rattle.unknowns.specs.Filling.{staticByte}
 use Rattle.image.specs.Image.{sizesOf, netsOf}
-use Rattle.cycle.specs.Cycle.{pinByte, Cycle, outputsOf, stateAfter, firstFlow}
-use Rattle.cycle.specs.Calls.{done}
+use Rattle.image.specs.Examples.{counter}
+use Rattle.cycle.specs.Cycle.{pinByte, flow, Cycle, outputsOf, stateAfter, firstFlow}
+use Rattle.cycle.specs.Calls.{done, Ran}
 use Rattle.static_run.specs.StaticCalls.{staticRunRefusal, staticRunOf}
 use Rattle.claims.specs.NetBytes.{netOf, placeOf, Counted}
 use Rattle.claims.specs.Verdicts.{Judged}
@@ -50,7 +51,12 @@ pub record StaticRunIs (s st : List ℕ) (k : ℕ) (rows outputs : List ℕ) : T
   pub state : staticRunOf s st k rows outputs .state ≡ stateAfter st cycles
   pub output-codes : staticRunOf s st k rows outputs .outputs ≡ outputsOf cycles
 
+-- the counter, with its reset unknown and trusted for two cycles, then unknown and untrusted, then a trusted 0: an unknown trusted output is no flow
+unfoldable pub staticCounted : Ran
+staticCounted = staticRunOf counter (0 ∷ []) 4 (4 ∷ 4 ∷ 6 ∷ 0 ∷ []) (9 ∷ 9 ∷ 9 ∷ 9 ∷ [])
+
 -- proved as `static-nets`
 pub record StaticNetsAll : Type 0 where
   pub pins : StaticPins
   pub run : (s st : List ℕ) (k : ℕ) (rows outputs : List ℕ) → staticRunRefusal s st k rows outputs ≡ none → StaticRunIs s st k rows outputs
+  pub example : staticCounted ≡ record { answer = done (record { cycle = 3; verdict = flow 5 }); state = 6 ∷ []; outputs = 0 ∷ 4 ∷ 4 ∷ 6 ∷ [] }

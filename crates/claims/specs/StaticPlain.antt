@@ -17,7 +17,7 @@ abbrev pub NoStart2 : (s : List ℕ) → Type 0
 NoStart2 s = (i : ℕ) → netOf s i .kind ≡ REG → netOf s i .b ≡ 2 → ⊥
 
 -- power-up without start 2, and cycles and runs without unknowns: answer and all bytes, of refused calls too
-pub record PlainStatic (s : List ℕ) : Type 0 where
+pub record AsPlain (s : List ℕ) : Type 0 where
   pub power-up : NoStart2 s → (st : List ℕ) → staticPowerUpOf s st ≡ powerUpOf s st
   pub cycles :
       checkRefusal s ≡ none → (k : ℕ) (rows st : List ℕ) → NoneAbove3 rows → NoneAbove3 st
@@ -26,4 +26,4 @@ pub record PlainStatic (s : List ℕ) : Type 0 where
 
 -- proved as `static-plain`
 abbrev pub StaticPlain : Type 0
-StaticPlain = (s : List ℕ) → PlainStatic s
+StaticPlain = (s : List ℕ) → AsPlain s

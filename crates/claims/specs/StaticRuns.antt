@@ -52,7 +52,7 @@ abbrev pub StaticWakes : Type 0
 StaticWakes = (s a a′ : List ℕ) → length a ≡ length a′ → SoundPowerUp s a a′
 
 -- LISTS OF RUNS, each taking the state that the last one left. A static run and a concrete one, of equally many cycles, each with its rows and the buffer that it is lent
-pub record TwoRuns : Type 0 where
+pub record RunPair : Type 0 where
   pub k : ℕ
   pub codes : List ℕ
   pub rows : List ℕ
@@ -60,20 +60,20 @@ pub record TwoRuns : Type 0 where
   pub outputs′ : List ℕ
 
 -- the codes cover the rows, and the buffers are equally long
-pub data AllCovered : List TwoRuns → Type 0 where
+pub data AllCovered : List RunPair → Type 0 where
   no-more : AllCovered []
-  one-more : {r : TwoRuns} {rs : List TwoRuns} → CoversAll (r .codes) (r .rows) → length (r .outputs) ≡ length (r .outputs′) → AllCovered rs → AllCovered (r ∷ rs)
+  one-more : {r : RunPair} {rs : List RunPair} → CoversAll (r .codes) (r .rows) → length (r .outputs) ≡ length (r .outputs′) → AllCovered rs → AllCovered (r ∷ rs)
 
 -- at every place, both from the states that those before left
-pub data SoundRuns (s : List ℕ) : (st st′ : List ℕ) → List TwoRuns → Type 0 where
+pub data SoundRuns (s : List ℕ) : (st st′ : List ℕ) → List RunPair → Type 0 where
   nil : {st st′ : List ℕ} → SoundRuns s st st′ []
   cons :
-      {st st′ : List ℕ} {r : TwoRuns} {rs : List TwoRuns} → SoundRun s st st′ (r .k) (r .codes) (r .rows) (r .outputs) (r .outputs′)
+      {st st′ : List ℕ} {r : RunPair} {rs : List RunPair} → SoundRun s st st′ (r .k) (r .codes) (r .rows) (r .outputs) (r .outputs′)
       → SoundRuns s (staticRunOf s st (r .k) (r .codes) (r .outputs) .state) (runOf s st′ (r .k) (r .rows) (r .outputs′) .state) rs
       → SoundRuns s st st′ (r ∷ rs)
 
 -- from covered states, and from power-up: against a power-up of the array, and against every state with which it may wake
-pub record RunsSound (s : List ℕ) (rs : List TwoRuns) : Type 0 where
+pub record SoundFromAll (s : List ℕ) (rs : List RunPair) : Type 0 where
   pub covered : (st st′ : List ℕ) → CoversAll st st′ → SoundRuns s st st′ rs
   pub from-power-up :
       (a a′ : List ℕ) → length a ≡ length a′ → powerUpOf s a′ .refusal ≡ none
@@ -84,4 +84,4 @@ pub record RunsSound (s : List ℕ) (rs : List TwoRuns) : Type 0 where
 
 -- proved as `static-runs`
 abbrev pub StaticRuns : Type 0
-StaticRuns = (s : List ℕ) (rs : List TwoRuns) → AllCovered rs → RunsSound s rs
+StaticRuns = (s : List ℕ) (rs : List RunPair) → AllCovered rs → SoundFromAll s rs

@@ -183,7 +183,8 @@ says =
       run-clear = λ s st st′ k rows rows′ outputs outputs′ q p l m n.
           promised .clear-stays s st st′ k rows rows′ outputs outputs′ q p l (run-is-clear s st k rows outputs m n);
       static-clear = λ s st st′ k codes rows outputs outputs′ p q l m n.
-          promised .static-clear s st st′ k codes rows outputs outputs′ p q l (static-is-clear s st k codes outputs m n);
+          promised .static-clear .run s st st′ k codes rows outputs outputs′ p q l (static-is-clear s st k codes outputs m n);
+      static-powered-up = λ s a st h w. promised .static-clear .wakes s a st (sym (reads .static-power-up s a) ∙ ap outcomeRead h) w;
       powered-up = λ s a st h w.
           let c = powered s a (sym (reads .power-up s a) ∙ ap outcomeRead h) in
           promised .unknown-start s (check-none s .1 (c .0)) .states a st (c .1) .0 w;

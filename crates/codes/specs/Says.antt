@@ -10,7 +10,7 @@ use Rattle.cycle.specs.Calls.{powerUpOf, stepOf, runOf}
 use Rattle.figures.specs.Figures.{doubledSizeOf}
 use Rattle.doubling.specs.Doubling.{doubleOf}
 use Rattle.static_run.specs.StaticCalls.{staticPowerUpOf, staticRunOf}
-use Rattle.claims.specs.StaticBytes.{FilledBy, ClearToo}
+use Rattle.claims.specs.StaticBytes.{FilledBy, ToldBy, ClearToo}
 use Rattle.claims.specs.Accepted.{AcceptedImage}
 use Rattle.claims.specs.Refused.{AnyCall, Refused}
 use Rattle.claims.specs.Verdicts.{MarkedOutput}
@@ -70,9 +70,11 @@ pub record NumbersSay : Type 0 where
   -- a static run answers a number below 2^32 whose rest by 65,536 is 65,535: every run that fills its unknown bits is clear, and known values are its values
   pub static-clear :
       (s st st′ : List ℕ) (k : ℕ) (codes rows outputs outputs′ : List ℕ)
-      → FilledBy st st′ → FilledBy codes rows → length outputs ≡ length outputs′
+      → ToldBy st st′ → FilledBy codes rows → length outputs ≡ length outputs′
       → answerCode firstFlowCode (staticRunOf s st k codes outputs .answer) < 2 ^ 32
       → answerCode firstFlowCode (staticRunOf s st k codes outputs .answer) % 65536 ≡ 65535
       → ClearToo k (staticRunOf s st k codes outputs) (runOf s st′ k rows outputs′)
+  -- static power-up answers 0: every state with which the array may wake is as the codes tell that it leaves
+  pub static-powered-up : (s a st : List ℕ) → outcomeCode (staticPowerUpOf s a .refusal) ≡ 0 → Wakes s st → ToldBy (staticPowerUpOf s a .state) st
   -- power-up answers 0: the states with which the array may wake, whatever its registers without a start hold, differ from the one that it leaves at most in the values of marked registers
   pub powered-up : (s a st : List ℕ) → outcomeCode (powerUpOf s a .refusal) ≡ 0 → Wakes s st → SameMarks (powerUpOf s a .state) st

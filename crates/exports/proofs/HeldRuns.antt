@@ -125,7 +125,7 @@ stays-unmarked : {s : List ℕ} {k : ℕ} {o o′ : Ran} → StaysClear s k o o�
     → let j = c * sizesOf s .outputs + placeOf OUT s i in (getD (o .outputs) j 0 / 2 % 2 ≡ 0) × (getD (o .outputs) j 0 ≡ getD (o′ .outputs) j 0)
 stays-unmarked c = c .protected
 
--- REGISTERS THAT WAKE UNKNOWN, with either value
+-- REGISTERS THAT WAKE UNKNOWN-TRUSTED, with either value
 either-value : WakesWith 2 2 × WakesWith 2 3
 either-value = (unknown-0, unknown-1)
 

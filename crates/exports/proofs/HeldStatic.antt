@@ -1,9 +1,9 @@
 -- The promises about static runs, used by their parts, as in Held.
-use Prim.Native.Nat.{ℕ, _+_, _/_, _%_, _≤_, _<_}
+use Prim.Native.Nat.{ℕ, _+_, _*_, _/_, _%_, _≤_, _<_}
 use mathlib.Core.Path.{_≡_, refl}
 use mathlib.Core.List.{List, [], _∷_, List·Memᴰ, List·Memᴰ·head, List·Memᴰ·tail, Forall₂}
 use mathlib.Core.Option.{none}
-use mathlib.Core.Bool.{true}
+use mathlib.Core.Bool.{true, false}
 use lib.ListN.{length, getD, take, drop}
 use Rattle.gates.specs.Kinds.{CONST, INPUT, REG, NOT, OUT}
 use Rattle.gates.specs.Rules.{value, mark, gateByte}
@@ -11,21 +11,21 @@ use Rattle.unknowns.specs.Filling.{isCode, known, fillings, staticByte}
 use Rattle.unknowns.specs.Covering.{Covers, CoversAll}
 use Rattle.image.specs.Image.{sizesOf, netsOf}
 use Rattle.checking.specs.Check.{checkRefusal}
-use Rattle.cycle.specs.Cycle.{pinByte, clear, plain, Cycle, cyclesOf, outputsOf, stateAfter, firstFlow}
+use Rattle.cycle.specs.Cycle.{pinByte, clear, flow, plain, Cycle, cyclesOf, outputsOf, stateAfter, firstFlow}
 use Rattle.cycle.specs.Calls.{done, powerUpOf, runRefusal, runOf}
-use Rattle.static_run.specs.StaticCalls.{static, staticPowerUpOf, staticRunRefusal, staticRunOf}
-use Rattle.claims.specs.Accepted.{NoneAbove3}
+use Rattle.static_run.specs.StaticCalls.{static, staticPowerUpRefusal, staticPowerUpOf, staticRunRefusal, staticRunOf}
+use Rattle.unknowns.proofs.Covered.{covers-itself, covers-trusted, covers-every}
+use Rattle.claims.specs.Accepted.{NoneAbove3, AcceptedImage}
 use Rattle.claims.specs.NetBytes.{netOf, placeOf, Counted}
 use Rattle.claims.specs.PowerUp.{Wakes}
 use Rattle.claims.specs.InBytes.{clearAfter}
 use Rattle.claims.specs.Verdicts.{Judged}
-use Rattle.claims.specs.StaticNets.{StaticNets, StaticCycles}
-use Rattle.claims.specs.StaticRuns.{CoversCycle, SoundRun, TwoRuns, no-more, one-more, SoundRuns}
+use Rattle.claims.specs.StaticNets.{StaticNets, StaticCycles, staticCounted}
+use Rattle.claims.specs.StaticRuns.{CoversCycle, SoundRun, RunPair, AllCovered, no-more, one-more, SoundRuns}
 use Rattle.claims.specs.StaticBytes.{FilledBy, ToldBy}
-use Rattle.claims.specs.StaticPlain.{NoStart2}
 use Rattle.claims.proofs.Promised.{promised}
 
--- A CODE covers what it is filled with: 4 either trusted bit, 6 any byte, and every other code itself. So nothing can be taken from the relation
+-- A CODE covers a byte by these four conditions and no others
 made : (code byte : ℕ) → isCode code ≡ true → (known code ≡ true → value byte ≡ value code) → (mark byte ≡ true → mark code ≡ true) → byte ≤ 3 → Covers code byte
 made code byte e v m s = record { exists = e; values = v; marks = m; small = s }
 
@@ -94,18 +94,33 @@ filled : (codes bytes : List ℕ) → length codes ≡ length bytes → ((i : �
     → ((i : ℕ) → i < length codes → getD codes i 0 ≤ 3 → getD bytes i 0 ≡ getD codes i 0)
     → ((i : ℕ) → i < length codes → getD codes i 0 ≡ 4 → getD bytes i 0 ≤ 1)
     → ((i : ℕ) → i < length codes → getD codes i 0 ≡ 6 → (2 ≤ getD bytes i 0) × (getD bytes i 0 ≤ 3)) → FilledBy codes bytes
-filled codes bytes l c k u t = record { size = l; codes-are = c; known = k; unknown = u; untrusted = t }
+filled codes bytes l c k u t = record { size = l; codes-are = c; known = k; unknown-trusted = u; unknown-untrusted = t }
 
 told : {codes bytes : List ℕ} → ToldBy codes bytes → (length codes ≡ length bytes)
+    × ((i : ℕ) → i < length codes → (getD codes i 0 ≡ 5 → ⊥) × (getD codes i 0 ≤ 6)) × ((i : ℕ) → i < length codes → getD bytes i 0 ≤ 3)
     × ((i : ℕ) → i < length codes → getD codes i 0 ≤ 3 → getD bytes i 0 % 2 ≡ getD codes i 0 % 2)
     × ((i : ℕ) → i < length codes → getD codes i 0 / 2 % 2 ≡ 0 → getD bytes i 0 / 2 ≡ 0)
-told t = (t .size, t .values, t .marks)
+told t = (t .size, t .codes-are, t .bytes-are, t .values, t .marks)
 
 clear-too : (s st st′ : List ℕ) (k : ℕ) (codes rows b b′ : List ℕ) → FilledBy st st′ → FilledBy codes rows → length b ≡ length b′
     → staticRunOf s st k codes b .answer ≡ clearAfter k
     → (runOf s st′ k rows b′ .answer ≡ clearAfter k)
     × ToldBy (staticRunOf s st k codes b .outputs) (runOf s st′ k rows b′ .outputs) × ToldBy (staticRunOf s st k codes b .state) (runOf s st′ k rows b′ .state)
-clear-too s st st′ k codes rows b b′ p q l h = let c = promised .static-clear s st st′ k codes rows b b′ p q l h in (c .answer, c .outputs, c .state)
+clear-too s st st′ k codes rows b b′ p q l h =
+    let e = promised .static-clear in
+    let c = e .run s st st′ k codes rows b b′ (e .fills st st′ p) q l h in
+    (c .answer, c .outputs, c .state)
+
+-- two runs, one after the other, from a state with which the array wakes
+clear-again : (s a st : List ℕ) (k k′ : ℕ) (codes codes′ rows rows′ b b′ u u′ : List ℕ) → staticPowerUpOf s a .refusal ≡ none → Wakes s st
+    → FilledBy codes rows → FilledBy codes′ rows′ → length b ≡ length b′ → length u ≡ length u′
+    → let o = staticRunOf s (staticPowerUpOf s a .state) k codes b in
+    let o′ = runOf s st k rows b′ in
+    o .answer ≡ clearAfter k → staticRunOf s (o .state) k′ codes′ u .answer ≡ clearAfter k′ → runOf s (o′ .state) k′ rows′ u′ .answer ≡ clearAfter k′
+clear-again s a st k k′ codes codes′ rows rows′ b b′ u u′ d w p q l m h g =
+    let e = promised .static-clear in
+    let first = e .run s _ st k codes rows b b′ (e .wakes s a st d w) p l h in
+    e .run s _ _ k′ codes′ rows′ u u′ (first .state) q m g .answer
 
 -- POWER-UP
 woken : (s a a′ st : List ℕ) → length a ≡ length a′ → powerUpOf s a′ .refusal ≡ none → Wakes s st
@@ -122,20 +137,24 @@ others-start : (s st : List ℕ) → checkRefusal s ≡ none → length st ≡ s
 others-start s st h l i m k = let p = promised .static-starts s st h l in (p .done, p .size, p .start-0 i m k, p .start-1 i m k)
 
 -- LISTS OF RUNS: of two, the second is sound from the states that the first left
-second-run : {s st st′ : List ℕ} {r q : TwoRuns} → SoundRuns s st st′ (r ∷ q ∷ [])
+second-run : {s st st′ : List ℕ} {r q : RunPair} → SoundRuns s st st′ (r ∷ q ∷ [])
     → SoundRun s (staticRunOf s st (r .k) (r .codes) (r .outputs) .state) (runOf s st′ (r .k) (r .rows) (r .outputs′) .state) (q .k) (q .codes) (q .rows) (q .outputs) (q .outputs′)
 second-run (SoundRuns.cons p (SoundRuns.cons q more)) = q
 
--- a list of one, from power-up, from a state with which the array wakes, and from a covered state
-one-run : (s a a′ st st′ : List ℕ) (r : TwoRuns) → CoversAll (r .codes) (r .rows) → length (r .outputs) ≡ length (r .outputs′) → length a ≡ length a′
-    → powerUpOf s a′ .refusal ≡ none → Wakes s st → CoversAll st′ st
-    → SoundRuns s (staticPowerUpOf s a .state) (powerUpOf s a′ .state) (r ∷ []) × SoundRuns s (staticPowerUpOf s a′ .state) st (r ∷ []) × SoundRuns s st′ st (r ∷ [])
-one-run s a a′ st st′ r q l m h w p =
-    let all = promised .static-runs s (r ∷ []) (one-more q l no-more) in
+-- any list, from power-up, from a state with which the array wakes, and from a covered state
+runs : (s a a′ st st′ : List ℕ) (r : RunPair) (rs : List RunPair) → CoversAll (r .codes) (r .rows) → length (r .outputs) ≡ length (r .outputs′) → AllCovered rs
+    → length a ≡ length a′ → powerUpOf s a′ .refusal ≡ none → Wakes s st → CoversAll st′ st
+    → SoundRuns s (staticPowerUpOf s a .state) (powerUpOf s a′ .state) (r ∷ rs) × SoundRuns s (staticPowerUpOf s a′ .state) st (r ∷ rs) × SoundRuns s st′ st (r ∷ rs)
+runs s a a′ st st′ r rs q l more m h w p =
+    let all = promised .static-runs s (r ∷ rs) (one-more q l more) in
     (all .from-power-up a a′ m h, all .from-wakes a′ st h w, all .covered st′ st p)
 
+no-runs : AllCovered []
+no-runs = no-more
+
 -- WITHOUT UNKNOWNS
-plain-calls : (s : List ℕ) → NoStart2 s → (st : List ℕ) (k : ℕ) (rows outputs : List ℕ) → NoneAbove3 rows → NoneAbove3 st
+plain-calls : (s : List ℕ) → ((i : ℕ) → netOf s i .kind ≡ REG → netOf s i .b ≡ 2 → ⊥) → (st : List ℕ) (k : ℕ) (rows outputs : List ℕ)
+    → ((i : ℕ) → i < length rows → getD rows i 0 ≤ 3) → ((i : ℕ) → i < length st → getD st i 0 ≤ 3)
     → (staticPowerUpOf s st ≡ powerUpOf s st) × (staticRunOf s st k rows outputs ≡ runOf s st k rows outputs)
 plain-calls s n st k rows outputs p q = let c = promised .static-plain s in (c .power-up n st, c .run st k rows outputs p q)
 
@@ -158,6 +177,37 @@ both-ways : List·Memᴰ 0 (fillings 4) × List·Memᴰ 1 (fillings 4) × List·
 unfolding fillings
 both-ways = (List·Memᴰ·head refl, List·Memᴰ·tail (List·Memᴰ·head refl), List·Memᴰ·head refl, List·Memᴰ·tail (List·Memᴰ·head refl))
 
-one-way : (fillings 0 ≡ 0 ∷ []) × (fillings 1 ≡ 1 ∷ []) × (fillings 2 ≡ 2 ∷ []) × (fillings 3 ≡ 3 ∷ [])
+one-way : (fillings 0 ≡ 0 ∷ []) × (fillings 1 ≡ 1 ∷ []) × (fillings 2 ≡ 2 ∷ []) × (fillings 3 ≡ 3 ∷ []) × (fillings 4 ≡ 0 ∷ 1 ∷ []) × (fillings 6 ≡ 2 ∷ 3 ∷ [])
 unfolding fillings
-one-way = (refl, refl, refl, refl)
+one-way = (refl, refl, refl, refl, refl, refl)
+
+-- the codes, and those with a known value
+the-codes : (isCode 0 ≡ true) × (isCode 1 ≡ true) × (isCode 2 ≡ true) × (isCode 3 ≡ true) × (isCode 4 ≡ true) × (isCode 5 ≡ false) × (isCode 6 ≡ true) × (isCode 7 ≡ false)
+the-codes = (refl, refl, refl, refl, refl, refl, refl, refl)
+
+known-codes : (known 0 ≡ true) × (known 1 ≡ true) × (known 2 ≡ true) × (known 3 ≡ true) × (known 4 ≡ false) × (known 6 ≡ false)
+known-codes = (refl, refl, refl, refl, refl, refl)
+
+-- 4 covers either trusted bit, 6 every byte, and a byte itself; and lists are covered place by place
+covered-by : (x y : ℕ) → x ≤ 1 → y ≤ 3 → Covers 4 x × Covers 6 y × Covers y y
+covered-by x y h k = (covers-trusted h, covers-every k, covers-itself k)
+
+place-by-place : {cs bs : List ℕ} → Forall₂ Covers cs bs → CoversAll cs bs
+place-by-place h = h
+
+place-by-place-back : {cs bs : List ℕ} → CoversAll cs bs → Forall₂ Covers cs bs
+place-by-place-back h = h
+
+-- THE EXAMPLE
+counted-outputs : (staticCounted .outputs ≡ 0 ∷ 4 ∷ 4 ∷ 6 ∷ []) × (staticCounted .state ≡ 6 ∷ []) × (staticCounted .answer ≡ done (record { cycle = 3; verdict = flow 5 }))
+counted-outputs = let e = promised .static-nets .example in (rw e, rw e, rw e)
+
+-- WHAT IS ACCEPTED
+accepted-static-power-up : (s st : List ℕ) → AcceptedImage s → length st ≡ sizesOf s .registers → staticPowerUpRefusal s st ≡ none
+accepted-static-power-up s st a l = promised .when-accepted .static-power-up s st .1 (a, l)
+
+accepted-static-run : (s st : List ℕ) (k : ℕ) (rows outputs : List ℕ) → AcceptedImage s → k ≤ 4096 → length st ≡ sizesOf s .registers
+    → ((i : ℕ) → i < length st → (getD st i 0 ≡ 5 → ⊥) × (getD st i 0 ≤ 6)) → length rows ≡ k * sizesOf s .inputs
+    → ((i : ℕ) → i < length rows → (getD rows i 0 ≡ 5 → ⊥) × (getD rows i 0 ≤ 6)) → length outputs ≡ k * sizesOf s .outputs → staticRunRefusal s st k rows outputs ≡ none
+accepted-static-run s st k rows outputs a f l c m d o =
+    promised .when-accepted .static-run s st k rows outputs .1 (a, f, record { size = l; codes = c }, record { size = m; codes = d }, o)

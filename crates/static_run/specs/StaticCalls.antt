@@ -5,7 +5,7 @@ use mathlib.Core.Option.{Option, none, some}
 use mathlib.Core.Bool.{cond}
 use lib.Dec.{eqb, ltb}
 use Rattle.gates.specs.Rules.{mark}
-use Rattle.unknowns.specs.Filling.{UNTRUSTED, noCode, staticByte}
+use Rattle.unknowns.specs.Filling.{UNKNOWN-UNTRUSTED, noCode, staticByte}
 use Rattle.image.specs.declared.image.Net.{Net}
 use Rattle.image.specs.Image.{sizesOf, netsOf}
 use Rattle.refusals.specs.declared.answer.Refusal.{Refusal}
@@ -20,7 +20,7 @@ static = record { gate = staticByte; marked = mark }
 
 -- "a static power-up sets a register with start 2 to 6, others as before"
 unfoldable pub staticStart : ℕ → ℕ
-staticStart b = cond (eqb b 2) UNTRUSTED (start b)
+staticStart b = cond (eqb b 2) UNKNOWN-UNTRUSTED (start b)
 
 unfoldable pub staticStarts : List Net → List ℕ
 staticStarts xs = registers (λ x. staticStart (x .b)) xs

@@ -1,18 +1,18 @@
 -- A code covers a byte: some filling of the code has the byte's value, and its mark or more. So the code of a gate covers the gate's byte, since a gate's mark
 -- is monotone in the marks of its pins (`gates-monotone`).
-use Prim.Native.Nat.{ℕ, _+_, _*_, _/_, _%_, _≤_}
+use Prim.Native.Nat.{ℕ, _/_, _%_, _≤_}
 use native.Mathlib.Omega.{arith}
 use mathlib.Core.Path.{_≡_, refl, sym, _∙_}
 use mathlib.Core.List.{List, [], _∷_, map, flatMap, List·Memᴰ, List·Memᴰ·head, List·Memᴰ·tail, Memᴰ·append-left, Memᴰ·append-right, Memᴰ·map}
 use mathlib.Core.Bool.{Bool, true, false, _||_, not, cond, false≢true}
 use lib.Dec.{eqb, lit≤}
 use borrow.Author.Tests.{not-true, eqb-true, ne-eqb, lt-ltb}
-use Rattle.gates.specs.Rules.{bit, value, mark, byte, gateByte}
+use Rattle.gates.specs.Rules.{value, mark, byte, gateByte}
 use Rattle.gates.specs.Relations.{BelowByte, equal, zero-marked, one-marked}
 use Rattle.gates.proofs.EachCode.{both, each}
 use Rattle.gates.proofs.Laws.{gates-monotone, below-value, below-mark, gates-code}
-use Rattle.unknowns.specs.Filling.{fillings, filled, allValue, anyMark, codeOf, staticByte}
-use Rattle.unknowns.specs.Covering.{Covers, Fills}
+use Rattle.unknowns.specs.Filling.{isCode, fillings, filled, allValue, anyMark, codeOf, staticByte}
+use Rattle.unknowns.specs.Covering.{Covers}
 use Rattle.unknowns.proofs.SixCodes.{IsCode, a-byte, unknown, untrusted, is-code, byte-code}
 
 -- a byte covers itself
@@ -104,7 +104,7 @@ mark-in (List·Memᴰ·head e) h = rw (← e, h)
 mark-in {xs = x ∷ xs} (List·Memᴰ·tail m) h = or-right (mark x) (anyMark xs) (mark-in m h)
 
 by-cases : (p q m : Bool) {z : ℕ} → (p ≡ true → value z ≡ true) → (q ≡ true → value z ≡ false) → (mark z ≡ true → m ≡ true) → z ≤ 3
-    → Covers (cond p (byte true m) (cond q (byte false m) (4 + 2 * bit m))) z
+    → Covers (cond p (byte true m) (cond q (byte false m) (cond m 6 4))) z
 unfolding value mark byte
 by-cases true q true f g h l = record { exists = refl; values = λ k. f refl; marks = λ t. refl; small = l }
 by-cases true q false f g h l = record { exists = refl; values = λ k. f refl; marks = h; small = l }
@@ -141,7 +141,11 @@ covers-gate kind a a′ b b′ c c′ p q r =
     covers-in (mem-filled kind a b c (x .among) (y .among) (z .among)) (gates-monotone kind _ _ _ _ _ _ (x .above) (y .above) (z .above))
     (gates-code kind a′ a′ b′ b′ c′ c′ (p .small) (q .small) (r .small))
 
--- FILLING IS COVERING
+-- FILLING IS COVERING: the byte is one that the code is filled with
+pub record Fills (code byte : ℕ) : Type 0 where
+  pub exists : isCode code ≡ true
+  pub among : List·Memᴰ byte (fillings code)
+
 fills-one : {x y : ℕ} → IsCode x → List·Memᴰ y (fillings x) → Covers x y
 unfolding fillings value mark
 fills-one {x} (a-byte l) m = one (rw (fillings-known x l) at m)

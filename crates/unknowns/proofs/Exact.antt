@@ -1,11 +1,11 @@
 -- The rule by filling is exact: a code that covers every byte of a gate's fillings says no more than the gate's code.
-use Prim.Native.Nat.{ℕ, _+_, _*_}
+use Prim.Native.Nat.{ℕ}
 use mathlib.Core.Logic.{⊎-elim}
 use mathlib.Core.Path.{_≡_, refl, sym, _∙_}
 use mathlib.Core.List.{List, [], _∷_, flatMap, List·Memᴰ, List·Memᴰ·head, List·Memᴰ·tail, List·Memᴰ·not-nil, List·Memᴰ·append-cases, Memᴰ·of-map}
 use mathlib.Core.Bool.{Bool, true, false, _||_, cond, false≢true}
 use lib.Dec.{eqb}
-use Rattle.gates.specs.Rules.{bit, value, mark, byte, gateByte}
+use Rattle.gates.specs.Rules.{value, mark, byte, gateByte}
 use Rattle.unknowns.specs.Filling.{known, fillings, filled, allValue, anyMark, codeOf, staticByte}
 use Rattle.unknowns.specs.Covering.{Covers}
 use Rattle.unknowns.specs.Exactness.{SaysNoMore, StaticExact}
@@ -25,7 +25,7 @@ any-mark (x ∷ xs) {A} h f = here (mark x) refl h (λ t. any-mark xs t (λ y m.
     here true e t later = f x (List·Memᴰ·head refl) e
     here false e t later = later t
 
-code-mark : (p q m : Bool) → mark (cond p (byte true m) (cond q (byte false m) (4 + 2 * bit m))) ≡ m
+code-mark : (p q m : Bool) → mark (cond p (byte true m) (cond q (byte false m) (cond m 6 4))) ≡ m
 unfolding mark byte
 code-mark true q true = refl
 code-mark true q false = refl
@@ -36,7 +36,7 @@ code-mark false false false = refl
 
 -- the code, where all bytes have the value v, and there is one
 code-value : (v p q m : Bool) → (v ≡ true → p ≡ true) → (v ≡ false → (p ≡ false) × (q ≡ true))
-    → let x = cond p (byte true m) (cond q (byte false m) (4 + 2 * bit m)) in
+    → let x = cond p (byte true m) (cond q (byte false m) (cond m 6 4)) in
     (known x ≡ true) × (value x ≡ v)
 unfolding value byte
 code-value true true q true f g = (refl, refl)

@@ -1,11 +1,11 @@
 -- The rule by filling on bytes 0 to 3, which have one filling each: it is the plain rule. And on any codes it gives codes.
-use Prim.Native.Nat.{ℕ, _+_, _*_, _≤_}
+use Prim.Native.Nat.{ℕ, _≤_}
 use mathlib.Core.Path.{_≡_, refl}
 use mathlib.Core.List.{List, [], _∷_, flatMap}
 use mathlib.Core.Bool.{Bool, true, false, cond}
 use lib.Dec.{eqb}
 use borrow.Author.Tests.{eqb-true}
-use Rattle.gates.specs.Rules.{bit, value, mark, byte, gateByte}
+use Rattle.gates.specs.Rules.{value, mark, byte, gateByte}
 use Rattle.gates.proofs.EachCode.{each}
 use Rattle.gates.proofs.Laws.{gates-code}
 use Rattle.unknowns.specs.Filling.{isCode, filled, allValue, anyMark, codeOf, staticByte}
@@ -22,7 +22,7 @@ static-known kind a b c h k l =
     rw (fillings-known a h, fillings-known b k, fillings-known c l) (one-byte (gateByte kind a b c) (gates-code kind a a b b c c h k l))
 
 -- CODES
-is-code : (p q m : Bool) → isCode (cond p (byte true m) (cond q (byte false m) (4 + 2 * bit m))) ≡ true
+is-code : (p q m : Bool) → isCode (cond p (byte true m) (cond q (byte false m) (cond m 6 4))) ≡ true
 unfolding byte
 is-code true q true = refl
 is-code true q false = refl

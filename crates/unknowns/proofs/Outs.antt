@@ -1,11 +1,11 @@
 -- An OUT passes the code of its pin on, whatever the codes of the other two operands.
-use Prim.Native.Nat.{ℕ, _+_, _*_}
+use Prim.Native.Nat.{ℕ}
 use mathlib.Core.Path.{_≡_, refl, sym, _∙_}
 use mathlib.Core.List.{List, [], _∷_, map, flatMap, append-nil}
 use mathlib.Core.Bool.{Bool, true, false, _&&_, _||_, not, cond}
 use lib.Dec.{eqb}
 use Rattle.gates.specs.Kinds.{OUT}
-use Rattle.gates.specs.Rules.{bit, value, mark, byte, gateByte}
+use Rattle.gates.specs.Rules.{value, mark, byte, gateByte}
 use Rattle.unknowns.specs.Filling.{fillings, filled, codeOf, staticByte}
 
 -- one filling, or two
@@ -27,10 +27,10 @@ abbrev often : (x : ℕ) (ys zs : List ℕ) → List ℕ
 often x ys zs = flatMap (λ y. map (λ z. x) zs) ys
 
 abbrev code : (v m : Bool) → ℕ
-code v m = cond (v && true) (byte true (m || false)) (cond (not v && true) (byte false (m || false)) (4 + 2 * bit (m || false)))
+code v m = cond (v && true) (byte true (m || false)) (cond (not v && true) (byte false (m || false)) (cond (m || false) 6 4))
 
 twice : (v m : Bool)
-    → cond (v && (v && true)) (byte true (m || (m || false))) (cond (not v && (not v && true)) (byte false (m || (m || false))) (4 + 2 * bit (m || (m || false)))) ≡ code v m
+    → cond (v && (v && true)) (byte true (m || (m || false))) (cond (not v && (not v && true)) (byte false (m || (m || false))) (cond (m || (m || false)) 6 4)) ≡ code v m
 twice true true = refl
 twice true false = refl
 twice false true = refl
@@ -38,7 +38,7 @@ twice false false = refl
 
 thrice : (v m : Bool)
     → cond (v && (v && (v && (v && true)))) (byte true (m || (m || (m || (m || false)))))
-    (cond (not v && (not v && (not v && (not v && true)))) (byte false (m || (m || (m || (m || false))))) (4 + 2 * bit (m || (m || (m || (m || false)))))) ≡ code v m
+    (cond (not v && (not v && (not v && (not v && true)))) (byte false (m || (m || (m || (m || false))))) (cond (m || (m || (m || (m || false)))) 6 4)) ≡ code v m
 thrice true true = refl
 thrice true false = refl
 thrice false true = refl

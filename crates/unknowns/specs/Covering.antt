@@ -1,10 +1,10 @@
 -- What a code says of a concrete byte.
 use Prim.Native.Nat.{ℕ, _≤_}
 use mathlib.Core.Path.{_≡_}
-use mathlib.Core.List.{List, List·Memᴰ, Forall₂}
+use mathlib.Core.List.{List, Forall₂}
 use mathlib.Core.Bool.{true}
 use Rattle.gates.specs.Rules.{value, mark}
-use Rattle.unknowns.specs.Filling.{isCode, known, fillings}
+use Rattle.unknowns.specs.Filling.{isCode, known}
 
 -- there is such a code; where its value is known, the byte has that value; the byte is marked only if the code is; and it is a byte, 0 to 3
 pub record Covers (code byte : ℕ) : Type 0 where
@@ -16,8 +16,3 @@ pub record Covers (code byte : ℕ) : Type 0 where
 -- place by place, of two lists equally long
 abbrev pub CoversAll : (cs bs : List ℕ) → Type 0
 CoversAll = Forall₂ Covers
-
--- the byte is one that the code is filled with
-pub record Fills (code byte : ℕ) : Type 0 where
-  pub exists : isCode code ≡ true
-  pub among : List·Memᴰ byte (fillings code)

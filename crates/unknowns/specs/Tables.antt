@@ -6,11 +6,11 @@ use mathlib.Core.Bool.{true, cond}
 use lib.Dec.{eqb}
 use lib.ListN.{getD}
 use Rattle.gates.specs.Kinds.{MUX}
-use Rattle.unknowns.specs.Filling.{UNTRUSTED, isCode, staticByte}
+use Rattle.unknowns.specs.Filling.{UNKNOWN-UNTRUSTED, isCode, staticByte}
 
 -- where a code stands among the six, in the order 0 1 2 3 4 6
 abbrev pub place : ℕ → ℕ
-place x = cond (eqb x UNTRUSTED) 5 x
+place x = cond (eqb x UNKNOWN-UNTRUSTED) 5 x
 
 -- a table with the code of a MUX for each triple of codes of its pins
 pub record MuxTable (t : List ℕ) : Type 0 where
