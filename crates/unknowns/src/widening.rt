@@ -1,6 +1,7 @@
 // One table of all codes with unknowns, with eight places for each pin, so that the place of a code is found by shifts. It is made once a run.
 use crate::tables::mux_codes;
 use crate::tables::pair_codes;
+use gates::MUX;
 ghost use mathlib.Core.Path.{_≡_};
 ghost use mathlib.Core.Bool.{true};
 ghost use Prim.Native.Nat.{_+_, _*_, _<_};
@@ -33,7 +34,7 @@ pub fn static_byte(
     let x = place_of(a);
     let y = place_of(b);
     let z = place_of(c);
-    if kind == 7 {
+    if kind == MUX as usize {
         return mux[(x * 6 + y) * 6 + z];
     }
     pairs[(kind * 6 + x) * 6 + y]
