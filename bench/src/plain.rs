@@ -76,7 +76,7 @@ pub fn xor((a, ta): (bool, bool), (b, tb): (bool, bool)) -> (bool, bool) {
 pub fn mux((a, ta): (bool, bool), (b, tb): (bool, bool), (c, tc): (bool, bool)) -> (bool, bool) {
     let value = if c { b } else { a };
     let chosen = if c { tb } else { ta };
-    (value, if tc { a | b | ta | tb } else { chosen })
+    (value, if tc { (a ^ b) | ta | tb } else { chosen })
 }
 
 /// The lowest protected OUT with mark 1.

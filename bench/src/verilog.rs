@@ -34,7 +34,8 @@ fn ports(z: Sizes) -> [Port; 4] {
 /// How a MUX is written.
 #[derive(Clone, Copy)]
 pub enum MuxAs {
-    /// As a NOT, two ANDs and an OR.
+    /// As a NOT, three ANDs and two ORs, of which the third AND is that of a and b:
+    /// it is 1 between two ones, whatever c is, and so such a MUX is not marked.
     Gates,
     /// As a cell of its own.
     Cell,
@@ -95,11 +96,13 @@ fn mux_text(n: usize, [a, b, c]: [String; 3], mux_as: MuxAs) -> String {
     if let MuxAs::Cell = mux_as {
         return format!("wire n{n}; \\$_MUX_ g{n} (.A({a}), .B({b}), .S({c}), .Y(n{n}));\n");
     }
-    let mut text = format!("wire n{n}, m{n}, p{n}, s{n};");
+    let mut text = format!("wire n{n}, m{n}, p{n}, s{n}, u{n}, w{n};");
     text += &format!(" \\$_NOT_ gm{n} (.A({c}), .Y(m{n}));");
     text += &format!(" \\$_AND_ gp{n} (.A({a}), .B(m{n}), .Y(p{n}));");
     text += &format!(" \\$_AND_ gs{n} (.A({b}), .B({c}), .Y(s{n}));");
-    text + &format!(" \\$_OR_ g{n} (.A(p{n}), .B(s{n}), .Y(n{n}));\n")
+    text += &format!(" \\$_AND_ gu{n} (.A({a}), .B({b}), .Y(u{n}));");
+    text += &format!(" \\$_OR_ gw{n} (.A(p{n}), .B(s{n}), .Y(w{n}));");
+    text + &format!(" \\$_OR_ g{n} (.A(w{n}), .B(u{n}), .Y(n{n}));\n")
 }
 
 /// How a module with marks names its ports.

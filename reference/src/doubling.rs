@@ -1,5 +1,5 @@
-//! The doubled netlist of document 01, with the mark registers of request L2 and
-//! the inverted pins of request L3 of document 02.
+//! The doubled netlist of document 01, with the mark registers of request L2, the
+//! inverted pins of request L3 and the MUX of request L5 of document 02.
 //!
 //! Each net becomes a group, groups in net order. The first net of a group is
 //! the value net v, the last the mark net t. A pin on the value net is inverted
@@ -176,8 +176,8 @@ fn or_group(a: Pair, b: Pair, first: usize) -> Vec<Net> {
     ]
 }
 
-/// MUX(va, vb, vc); p = OR(va, vb); q = OR(ta, tb); r = OR(p, q);
-/// w = AND(tc, r); z = MUX(ta, tb, vc); OR(w, z).
+/// MUX(va, vb, vc); p = XOR(va, vb); q = OR(ta, tb); r = OR(p, q);
+/// w = AND(tc, r); z = MUX(ta, tb, vc); OR(w, z). The XOR is that of request L5.
 fn mux_group(a: Pair, b: Pair, c: Pair, first: usize) -> Vec<Net> {
     let p = Pin::plain(first + 1);
     let q = Pin::plain(first + 2);
@@ -186,7 +186,7 @@ fn mux_group(a: Pair, b: Pair, c: Pair, first: usize) -> Vec<Net> {
     let z = Pin::plain(first + 5);
     vec![
         Net::Mux(a.v, b.v, c.v),
-        Net::Or(a.v, b.v),
+        Net::Xor(a.v, b.v),
         Net::Or(a.t, b.t),
         Net::Or(p, q),
         Net::And(c.t, r),

@@ -1,4 +1,5 @@
-//! The gate rules of document 01, on net bytes.
+//! The gate rules of document 01, on net bytes. MUX follows its truth table, by
+//! request L5 of document 02.
 //!
 //! A net byte is value + 2 * mark. Mark 0 is trusted, mark 1 untrusted. The
 //! calls pass only bytes 0 to 3 to these functions. Of any other byte the two
@@ -14,7 +15,7 @@ pub(crate) struct Gates {
     pub mux: fn(u8, u8, u8) -> u8,
 }
 
-/// The rules of document 01.
+/// The rules of a run.
 pub(crate) const GATES_ON_BYTES: Gates = Gates {
     not: not_byte,
     and: and_byte,
@@ -81,7 +82,8 @@ pub fn xor_byte(a: u8, b: u8) -> u8 {
 /// MUX gives a if c is 0 and b if c is 1.
 ///
 /// If c is unmarked, it has the mark of the pin chosen. If c is marked, it is
-/// marked when any of a, b, ta, tb is 1.
+/// marked if a and b differ or ta or tb is 1. So a marked select between two equal
+/// trusted values leaves it unmarked.
 pub fn mux_byte(a: u8, b: u8, c: u8) -> u8 {
     let (va, ta) = (value(a), mark(a));
     let (vb, tb) = (value(b), mark(b));
@@ -89,7 +91,7 @@ pub fn mux_byte(a: u8, b: u8, c: u8) -> u8 {
     let chosen_value = if vc { vb } else { va };
     let chosen_mark = if vc { tb } else { ta };
     let marked = if tc {
-        va || vb || ta || tb
+        va != vb || ta || tb
     } else {
         chosen_mark
     };

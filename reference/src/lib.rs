@@ -1,6 +1,6 @@
 //! A reference implementation of the gate-level trust tracker.
 //!
-//! It is written from document 01, the specification, and requests L1 to L4 of
+//! It is written from document 01, the specification, and requests L1 to L5 of
 //! document 02, and follows their formulas literally. Every call checks the
 //! image anew and works on a decoded netlist.
 

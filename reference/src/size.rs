@@ -76,7 +76,8 @@ pub(crate) fn group_length(kind: Kind) -> usize {
     GROUP_LENGTHS[usize::from(kind.byte())]
 }
 
-/// The kinds of the nets of a group, in the order of document 01.
+/// The kinds of the nets of a group, in the order of document 01. The second net
+/// of the group of a MUX is an XOR, by request L5 of document 02.
 fn group_kinds(kind: Kind) -> &'static [Kind] {
     use Kind::{And, Const, Input, Mux, Not, Or, Out, Reg, Xor};
     match kind {
@@ -87,7 +88,7 @@ fn group_kinds(kind: Kind) -> &'static [Kind] {
         And => &[And, And, And, And, Or, Or],
         Or => &[Or, Not, Not, And, And, And, Or, Or],
         Xor => &[Xor, Or],
-        Mux => &[Mux, Or, Or, Or, And, Mux, Or],
+        Mux => &[Mux, Xor, Or, Or, And, Mux, Or],
         Out => &[Out, Out],
     }
 }

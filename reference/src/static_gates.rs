@@ -2,10 +2,10 @@
 //!
 //! A code is 0 to 3, a known byte as in a run, or 4 for an unknown trusted bit,
 //! or 6 for an unknown untrusted one. At each gate every unknown pin is filled
-//! both ways, and the gate of document 01 gives a byte for each filling. The
-//! fillings of one pin have nothing to do with those of another, also when both
-//! pins read the same net. The calls pass only codes to these functions. Any
-//! other byte is filled with itself alone.
+//! both ways, and the gate of a run gives a byte for each filling. The fillings of
+//! one pin have nothing to do with those of another, also when both pins read the
+//! same net. The calls pass only codes to these functions. Any other byte is
+//! filled with itself alone.
 
 use crate::gates::{
     and_byte, is_marked, mux_byte, net_byte, not_byte, or_byte, value, xor_byte, Gates,
@@ -52,8 +52,9 @@ pub fn xor_code(a: u8, b: u8) -> u8 {
     fill_two_pins(xor_byte, a, b)
 }
 
-/// MUX of each filling. The whole MUX is filled, not the gates of which document
-/// 01 composes it.
+/// MUX of each filling. The whole MUX is filled, not a composition of gates. With
+/// an untrusted select, also an unknown one, it is unmarked only if a and b are
+/// the same known and trusted code.
 pub fn mux_code(a: u8, b: u8, c: u8) -> u8 {
     let mut bytes = Vec::new();
     for a in fillings(&a) {

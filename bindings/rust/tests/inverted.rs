@@ -57,7 +57,7 @@ fn stepped(byte: u8) -> ([u8; 7], u8) {
 // clock. NOT of the inverted input is the input. XOR of the input and the inverted
 // input is 1, with the input's mark. The MUX takes net 1, a 0, if the inverted
 // input is 0, and otherwise net 2, a 1; where the input is marked, the MUX is so
-// too, since net 2 is 1. The OUT is the inverted input.
+// too, since these differ. The OUT is the inverted input.
 #[test]
 fn each_pin_inverts_the_value_and_keeps_the_mark() {
     assert_eq!(stepped(0), ([0, 0, 1, 0, 1, 1, 1], 1));

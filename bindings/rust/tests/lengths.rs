@@ -16,7 +16,7 @@ const GROUPS: [&[u8]; 9] = [
     &[4, 4, 4, 4, 5, 5],
     &[5, 3, 3, 4, 4, 4, 5, 5],
     &[6, 5],
-    &[7, 5, 5, 5, 4, 7, 5],
+    &[7, 6, 5, 5, 4, 7, 5],
     &[8, 8],
 ];
 
@@ -84,16 +84,16 @@ fn written(image: &[u8]) -> Vec<u8> {
 }
 
 // One net of each kind, doubled four times. Six kinds become two nets each, AND
-// six, OR eight and MUX seven: 33 nets, of which 8 are ANDs, 11 ORs, 2 MUXes and
-// 12 others. 2 × 12 + 6 × 8 + 8 × 11 + 7 × 2 is 174. Of these 67 are ANDs, 61
-// ORs, 4 MUXes and 42 others, and 2 × 42 + 6 × 67 + 8 × 61 + 7 × 4 is 1,002. Of
-// these 455 are ANDs, 359 ORs, 8 MUXes and 180 others, so that doubling them
-// makes 2 × 180 + 6 × 455 + 8 × 359 + 7 × 8 = 6,018 nets.
+// six, OR eight and MUX seven: 33 nets, of which 8 are ANDs, 10 ORs, 2 MUXes and
+// 13 others. 2 × 13 + 6 × 8 + 8 × 10 + 7 × 2 is 168. Of these 64 are ANDs, 57
+// ORs, 4 MUXes and 43 others, and 2 × 43 + 6 × 64 + 8 × 57 + 7 × 4 is 954. Of
+// these 431 are ANDs, 338 ORs, 8 MUXes and 177 others, so that doubling them
+// makes 2 × 177 + 6 × 431 + 8 × 338 + 7 × 8 = 5,700 nets.
 #[test]
 fn the_figures_are_those_of_what_is_written() {
     let nets: Vec<Net> = (0..=8).map(|kind| Net::new(kind, 0, 0, 0)).collect();
     let mut image = encode(&nets);
-    for nets in [33, 174, 1_002, 6_018] {
+    for nets in [33, 168, 954, 5_700] {
         image = written(&image);
         assert_eq!(image.len(), image_length(nets));
     }

@@ -75,9 +75,9 @@ fn not_and_out_leave_unknown_codes() {
     assert_eq!(CODES.map(|a| gate(OUT, [a, 0, 0])), CODES);
 }
 
-// A MUX between two trusted ones is a trusted 1 for both values of a trusted c. A
-// composition of filled gates would not know that. With an untrusted c it is
-// marked, since a and b are not both 0. Between trusted zeros it is 0, unmarked.
+// A MUX between two trusted ones is a trusted 1 for both values of c, and c changes
+// nothing, trusted or untrusted. A composition of filled gates would not know that.
+// Between trusted zeros it is 0, unmarked.
 #[test]
 fn a_mux_is_filled_as_a_whole() {
     let cases = [
@@ -86,7 +86,7 @@ fn a_mux_is_filled_as_a_whole() {
         ([0, 1, 4], 4),
         ([3, 3, 4], 3),
         ([0, 2, 4], 2),
-        ([1, 1, 6], 3),
+        ([1, 1, 6], 1),
         ([0, 0, 6], 0),
         ([0, 1, 6], 6),
         ([4, 6, 0], 4),

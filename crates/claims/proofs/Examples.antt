@@ -12,15 +12,15 @@ use Rattle.cycle.specs.Calls.{start, starts, powerUpRefusal, powerUpOf, asStep,
 use Rattle.claims.specs.Examples.{counted, twoRows, invertedPins, invertedStep, Examples}
 
 -- what is computed with
-gating : Unit {0}
+unfoldable pub gating : Unit {0}
 unfolding value mark byte andMark orMark xorMark muxMark notByte andByte orByte xorByte muxByte gateByte
 gating = tt
 
-checking : Unit {0}
+unfoldable pub checking : Unit {0}
 unfolding sizesOf netAt netsFrom netsOf pinNet count netRefusal netsRefusal checkRefusal badByte badLength powerUpRefusal stepRefusal runRefusal
 checking = tt
 
-running : Unit {0}
+unfoldable pub running : Unit {0}
 unfolding pinByte netByte past walk bytesOf verdictFrom outputsFrom registers clocked cycleOf cyclesOf outputsOf stateAfter firstOf firstFlow start starts powerUpOf asStep stepOf asRun runOf
 running = tt
 

@@ -27,6 +27,10 @@ pub mod ClearRun
 pub mod Waking
 pub mod UnknownStart
 pub mod DoubledRun
+pub mod Circuits
+pub mod Ways
+pub mod Exactness
+pub mod ExactnessExamples
 pub mod StaticNets
 pub mod StaticCovered
 pub mod StaticRuns

@@ -1,6 +1,5 @@
 -- All theorems, in one record.
 use Rattle.gates.proofs.Laws
-use Rattle.gates.proofs.Composed
 use Rattle.gates.proofs.Meaning
 use Rattle.claims.specs.Promised.{Promised}
 use Rattle.claims.proofs.Terms
@@ -25,6 +24,9 @@ use Rattle.claims.proofs.TwoSteps
 use Rattle.claims.proofs.ClearRun
 use Rattle.claims.proofs.UnknownStart
 use Rattle.claims.proofs.DoubledRun
+use Rattle.claims.proofs.Ways
+use Rattle.claims.proofs.Exactness
+use Rattle.claims.proofs.ExactnessExamples
 use Rattle.unknowns.proofs.Exact
 use Rattle.claims.proofs.StaticNets
 use Rattle.claims.proofs.StaticRuns
@@ -47,7 +49,6 @@ promised =
       unchanged = Unchanged.unchanged;
       gate-values = Meaning.gate-values;
       marks-exact = Meaning.marks-exact;
-      mux-composed = Composed.mux-composed;
       gates-monotone = Laws.gates-monotone;
       examples = Examples.examples;
       power-up-starts = PowerUp.power-up-starts;
@@ -74,6 +75,9 @@ promised =
       bound-reached = Bound.bound-reached;
       demand3 = TwoRun.demand3;
       relations-mean = Meaning.relations-mean;
+      exactness = Exactness.exactness;
+      ways-counted = Ways.ways-counted;
+      exactness-examples = ExactnessExamples.exactness-examples;
       static-nets = StaticNets.static-nets;
       static-sound = StaticRuns.static-sound;
       static-wakes = StaticRuns.static-wakes;

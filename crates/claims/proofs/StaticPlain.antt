@@ -17,7 +17,7 @@ use Rattle.unknowns.proofs.Covered.{covers-itself}
 use Rattle.unknowns.proofs.Known.{static-known}
 use Rattle.image.specs.declared.image.Net.{Net}
 use Rattle.image.specs.Image.{sizesOf, net, netsOf}
-use Rattle.image.proofs.Pairs.{pairs-imp}
+use Rattle.image.proofs.Pairs.{pairs-imp, pairs-equal}
 use Rattle.checking.specs.Check.{checkRefusal}
 use Rattle.checking.proofs.Checked.{check-none}
 use Rattle.cycle.specs.Cycle.{plain, Cycle, cyclesOf, registers}
@@ -51,15 +51,13 @@ same-judged = judged-alike (record { equal = refl; small = omega arith }) (λ x 
 
 -- CYCLES
 same-lists : {xs ys : List ℕ} → Forall₂ Same xs ys → xs ≡ ys
-same-lists Forall₂·nil = refl
-same-lists (Forall₂·cons h t) = ap₂ (λ x xs. x ∷ xs) (h .equal) (same-lists t)
+same-lists = pairs-equal (λ x y h. h .equal)
 
 same-cycle : (c d : Cycle) → Related Same _≡_ c d → c ≡ d
 same-cycle c d h = λ i. record { bytes = same-lists (h .bytes) i; verdict = h .verdict i; outputs = same-lists (h .outputs) i; state = same-lists (h .state) i }
 
 same-cycles : {cs ds : List Cycle} → Forall₂ (Related Same _≡_) cs ds → cs ≡ ds
-same-cycles Forall₂·nil = refl
-same-cycles (Forall₂·cons h t) = ap₂ (λ c cs. c ∷ cs) (same-cycle _ _ h) (same-cycles t)
+same-cycles = pairs-equal same-cycle
 
 -- known bytes, one after the other
 each-same : (xs : List ℕ) → NoneAbove3 xs → Forall₂ Same xs xs

@@ -38,8 +38,8 @@ theirGroups =
     ++ (net OR 2 8 0 ∷ net NOT 2 0 0 ∷ net NOT 8 0 0 ∷ net AND 3 16 0 ∷ net AND 13 15 0 ∷ net AND 3 13 0 ∷ net OR 17 18 0 ∷ net OR 20 19 0 ∷ [])
     -- 22 XOR: XOR(va, vb); OR(ta, tb)
     ++ (net XOR 6 14 0 ∷ net OR 7 21 0 ∷ [])
-    -- 24 MUX: MUX(va, vb, vc); p = OR(va, vb); q = OR(ta, tb); r = OR(p, q); w = AND(tc, r); z = MUX(ta, tb, vc); OR(w, z)
-    ++ (net MUX 8 14 22 ∷ net OR 8 14 0 ∷ net OR 13 21 0 ∷ net OR 25 26 0 ∷ net AND 23 27 0 ∷ net MUX 13 21 22 ∷ net OR 28 29 0 ∷ [])
+    -- 24 MUX: MUX(va, vb, vc); p = XOR(va, vb); q = OR(ta, tb); r = OR(p, q); w = AND(tc, r); z = MUX(ta, tb, vc); OR(w, z)
+    ++ (net MUX 8 14 22 ∷ net XOR 8 14 0 ∷ net OR 13 21 0 ∷ net OR 25 26 0 ∷ net AND 23 27 0 ∷ net MUX 13 21 22 ∷ net OR 28 29 0 ∷ [])
     -- 31 OUT: OUT va, free; OUT ta, free
     ++ (net OUT 24 0 0 ∷ net OUT 30 0 0 ∷ [])
 
@@ -72,7 +72,7 @@ invertedGroups =
     ++ (net OR 2 (top 8) 0 ∷ net NOT 2 0 0 ∷ net NOT (top 8) 0 0 ∷ net AND 3 16 0 ∷ net AND 13 15 0 ∷ net AND 3 13 0 ∷ net OR 17 18 0 ∷ net OR 20 19 0 ∷ [])
     ++ (net XOR (top 6) (top 14) 0 ∷ net OR 7 21 0 ∷ [])
     ++ (net MUX (top 8) (top 14) (top 22)
-    ∷ net OR (top 8) (top 14) 0 ∷ net OR 13 21 0 ∷ net OR 25 26 0 ∷ net AND 23 27 0 ∷ net MUX 13 21 (top 22) ∷ net OR 28 29 0 ∷ [])
+    ∷ net XOR (top 8) (top 14) 0 ∷ net OR 13 21 0 ∷ net OR 25 26 0 ∷ net AND 23 27 0 ∷ net MUX 13 21 (top 22) ∷ net OR 28 29 0 ∷ [])
     ++ (net OUT (top 24) 0 0 ∷ net OUT 30 0 0 ∷ [])
 
 -- the group of net i of xs, which is x: pin a becomes the value pin va and the mark pin ta, and so b and c (PinsMean); the first net of the group is v.
@@ -110,7 +110,7 @@ module _ (xs : List Net) (i : ℕ) (x : Net) where
         ≡ net 5 va vb 0 ∷ net 3 va 0 0 ∷ net 3 vb 0 0 ∷ net 4 ta (v + 2) 0 ∷ net 4 tb (v + 1) 0 ∷ net 4 ta tb 0 ∷ net 5 (v + 3) (v + 4) 0 ∷ net 5 (v + 6) (v + 5) 0 ∷ []
     pub xor : x .kind ≡ 6 → groupAt xs i x ≡ net 6 va vb 0 ∷ net 5 ta tb 0 ∷ []
     pub mux : x .kind ≡ 7 → groupAt xs i x
-        ≡ net 7 va vb vc ∷ net 5 va vb 0 ∷ net 5 ta tb 0 ∷ net 5 (v + 1) (v + 2) 0 ∷ net 4 tc (v + 3) 0 ∷ net 7 ta tb vc ∷ net 5 (v + 4) (v + 5) 0 ∷ []
+        ≡ net 7 va vb vc ∷ net 6 va vb 0 ∷ net 5 ta tb 0 ∷ net 5 (v + 1) (v + 2) 0 ∷ net 4 tc (v + 3) 0 ∷ net 7 ta tb vc ∷ net 5 (v + 4) (v + 5) 0 ∷ []
     pub out : x .kind ≡ 8 → groupAt xs i x ≡ net 8 va 0 0 ∷ net 8 ta 0 0 ∷ []
 
 -- proved as `groups`

@@ -19,6 +19,9 @@ pub mod Pairing
 pub mod TwoRun
 pub mod InBytes
 pub mod UnknownStart
+pub mod Ways
+pub mod Exactness
+pub mod ExactnessExamples
 pub mod StaticNets
 pub mod StaticRuns
 pub mod StaticBytes

@@ -1,7 +1,7 @@
 -- All that is promised of the calls, as one record: read this first. Above each field stands what it means for a user; the statement itself is in the file that its
 -- `use` line names. That the code does what these statements speak of (`checkRefusal`, `powerUpOf`, `stepOf`, `runOf`, `staticPowerUpOf`, `staticRunOf`, `doubledSizeOf`, `doubleOf`) is the contract of each call, in
 -- src/ of its crate. The record is proved as `promised`, and used by the crate `exports`, field by field.
-use Rattle.gates.specs.Meaning.{GateValues, MarksExact, MuxComposed, GatesMonotone, RelationsMean}
+use Rattle.gates.specs.Meaning.{GateValues, MarksExact, GatesMonotone, RelationsMean}
 use Rattle.unknowns.specs.Exactness.{StaticExact}
 use Rattle.claims.specs.Terms.{Terms}
 use Rattle.claims.specs.Examples.{Examples}
@@ -23,6 +23,9 @@ use Rattle.claims.specs.Pairing.{Demand2}
 use Rattle.claims.specs.TwoRun.{Demand3}
 use Rattle.claims.specs.InBytes.{ClearStays, StepsAgree, DoubledShows}
 use Rattle.claims.specs.UnknownStart.{UnknownStarts}
+use Rattle.claims.specs.Ways.{WaysCountedAll}
+use Rattle.claims.specs.Exactness.{Exactness}
+use Rattle.claims.specs.ExactnessExamples.{ExactnessExamples}
 use Rattle.claims.specs.StaticNets.{StaticNetsAll}
 use Rattle.claims.specs.StaticRuns.{StaticSound, StaticWakes, StaticRuns}
 use Rattle.claims.specs.StaticBytes.{StaticClear, StaticPowerUpAll}
@@ -53,10 +56,8 @@ pub record Promised : Type 0 where
   pub unchanged : Unchanged
   -- DEMAND 2, values and marks. The gates' values are those of arithmetic.
   pub gate-values : GateValues
-  -- NOT, AND, OR and XOR are marked exactly where other values of their marked pins would change their value.
+  -- A gate is marked exactly where other values of its marked pins would change its value.
   pub marks-exact : MarksExact
-  -- A MUX is the NOT, two ANDs and OR that the GLIFT paper composes it of.
-  pub mux-composed : MuxComposed
   -- A pin with a mark more never takes the mark of a gate away.
   pub gates-monotone : GatesMonotone
   -- Document 01's examples C1 to C12 come out as it says, and so does a run of two rows.
@@ -110,6 +111,13 @@ pub record Promised : Type 0 where
   pub demand3 : Demand3
   -- "Agree", by which that is said, means of bytes 0 to 3 equal marks, and equal values where the mark is 0.
   pub relations-mean : RelationsMean
+  -- EXACT MARKS (document 02, L5). In every cycle, a net that no marked input or register reaches along two ways is marked exactly if other values of the marked inputs and registers,
+  -- chosen together, would change its value.
+  pub exactness : Exactness
+  -- The ways between two nets are as many as one counts on a drawing: one for each pin, used or not, and none through the pin of a register.
+  pub ways-counted : WaysCountedAll
+  -- Where a marked input reaches a XOR along two ways, it is marked though nothing changes it; a select between two ones, as a MUX, is not.
+  pub exactness-examples : ExactnessExamples
   -- STATIC RUNS (document 02, L4). In every cycle of a static run each net has the code of its kind, by filling, and its answer, outputs and state are read off its cycles.
   pub static-nets : StaticNetsAll
   -- What a static run says holds of every run that it covers: in every cycle, for every net, output and register, from any covered state.

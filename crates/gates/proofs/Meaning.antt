@@ -12,7 +12,7 @@ use Rattle.gates.proofs.EachCode.{all4, each, each-pair, each-triple}
 use Rattle.gates.proofs.Laws.{Code, gates-agree, gates-code}
 
 -- THE RELATIONS of bytes 0 to 3. Two bytes are equal or not
-either : (x y : ℕ) {A : Type 0} → (x ≡ y → A) → ((x ≡ y → ⊥) → A) → A
+pub either : (x y : ℕ) {A : Type 0} → (x ≡ y → A) → ((x ≡ y → ⊥) → A) → A
 either x y {A} f g = by-test (eqb x y) refl
   where
     by-test : (t : Bool) → eqb x y ≡ t → A
@@ -70,10 +70,10 @@ gate-values =
     }
 
 -- MARKS. The byte with the other value, where it is marked
-abbrev flipped : ℕ → ℕ
+abbrev pub flipped : ℕ → ℕ
 flipped a = cond (eqb (a / 2) 1) (5 - a) a
 
-flip-agrees : (a : ℕ) → a ≤ 3 → AgreeByte a (flipped a)
+pub flip-agrees : (a : ℕ) → a ≤ 3 → AgreeByte a (flipped a)
 flip-agrees a h =
     either (a / 2) 1
     (λ e. rw (eq-eqb (a / 2) 1 e) (agree-back a (5 - a) h (omega arith) (omega arith) (λ z. absurd (omega arith))))
@@ -124,7 +124,7 @@ module _ (f : (a b c : ℕ) → ℕ) where
       }
 
   -- a gate that keeps agreement and codes, and of which that holds at all bytes, is marked exactly if it can be changed
-  abbrev Keeps : (ℕ → ℕ → Type 0) → Type 0
+  abbrev pub Keeps : (ℕ → ℕ → Type 0) → Type 0
   Keeps R = (a a′ b b′ c c′ : ℕ) → R a a′ → R b b′ → R c c′ → R (f a b c) (f a′ b′ c′)
 
   exact : Keeps AgreeByte → Keeps Code → all4 (λ a. all4 (λ b. all4 (marked-changes a b))) ≡ true → Exact f
@@ -136,11 +136,12 @@ module _ (f : (a b c : ℕ) → ℕ) where
   )
 
 pub marks-exact : MarksExact
-unfolding value mark byte andMark orMark xorMark notByte andByte orByte xorByte gateByte
+unfolding value mark byte andMark orMark xorMark muxMark notByte andByte orByte xorByte muxByte gateByte
 marks-exact =
     record {
       not = exact (λ a b c. notByte a) (gates-agree 3) (gates-code 3) refl;
       and = exact (λ a b c. andByte a b) (gates-agree 4) (gates-code 4) refl;
       or = exact (λ a b c. orByte a b) (gates-agree 5) (gates-code 5) refl;
       xor = exact (λ a b c. xorByte a b) (gates-agree 6) (gates-code 6) refl;
+      mux = exact muxByte (gates-agree 7) (gates-code 7) refl;
     }

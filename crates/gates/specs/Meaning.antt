@@ -29,16 +29,13 @@ pub record Changed (f : (a b c : ℕ) → ℕ) (a b c : ℕ) : Type 0 where
 abbrev pub Exact : ((a b c : ℕ) → ℕ) → Type 0
 Exact f = (a b c : ℕ) → a ≤ 3 → b ≤ 3 → c ≤ 3 → (f a b c / 2 ≡ 1) ↔ Changed f a b c
 
--- every gate is so but the MUX, of which its composition is said instead; proved as `marks-exact`
+-- every gate is so; proved as `marks-exact`
 pub record MarksExact : Type 0 where
   pub not : Exact (λ a b c. notByte a)
   pub and : Exact (λ a b c. andByte a b)
   pub or : Exact (λ a b c. orByte a b)
   pub xor : Exact (λ a b c. xorByte a b)
-
--- a MUX has the byte of the NOT, two ANDs and OR that the GLIFT paper composes it of; proved as `mux-composed`
-abbrev pub MuxComposed : Type 0
-MuxComposed = (a b c : ℕ) → a ≤ 3 → b ≤ 3 → c ≤ 3 → muxByte a b c ≡ orByte (andByte a (notByte c)) (andByte b c)
+  pub mux : Exact muxByte
 
 -- more marks at the pins of a gate never take its mark away; proved as `gates-monotone`
 abbrev pub GatesMonotone : Type 0

@@ -94,7 +94,7 @@ xorBytes a b = xorByte (a % 2) (b % 2) ∷ orByte (a / 2) (b / 2) ∷ []
 
 muxBytes : ℕ → ℕ → ℕ → List ℕ
 muxBytes a b c =
-    let p = orByte (a % 2) (b % 2) in
+    let p = xorByte (a % 2) (b % 2) in
     let q = orByte (a / 2) (b / 2) in
     let r = orByte p q in
     let w = andByte (c / 2) r in
@@ -138,7 +138,7 @@ unfolding value mark byte orMark xorMark orByte xorByte xorBytes
 xor-splits a b h k = splits _ _ (each-pair (λ a b. splitTest (xorByte a b) (xorBytes a b)) refl a b h k)
 
 mux-splits : (a b c : ℕ) → a ≤ 3 → b ≤ 3 → c ≤ 3 → Splits (muxByte a b c) (muxBytes a b c)
-unfolding value mark byte andMark orMark muxMark andByte orByte muxByte muxBytes
+unfolding value mark byte andMark orMark xorMark muxMark andByte orByte xorByte muxByte muxBytes
 mux-splits a b c h k l = splits _ _ (each-triple (λ a b c. splitTest (muxByte a b c) (muxBytes a b c)) refl a b c h k l)
 
 pub const-splits : (a : ℕ) → a ≤ 1 → Splits a (a ∷ 0 ∷ [])

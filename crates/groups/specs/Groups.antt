@@ -64,7 +64,7 @@ orGroup v va ta vb tb =
 abbrev pub xorGroup : (va ta vb tb : ℕ) → List Net
 xorGroup va ta vb tb = net XOR va vb 0 ∷ net OR ta tb 0 ∷ []
 
--- MUX(va, vb, vc); p = OR(va, vb); q = OR(ta, tb); r = OR(p, q); w = AND(tc, r); z = MUX(ta, tb, vc); OR(w, z)
+-- MUX(va, vb, vc); p = XOR(va, vb); q = OR(ta, tb); r = OR(p, q); w = AND(tc, r); z = MUX(ta, tb, vc); OR(w, z)
 abbrev pub muxGroup : (v va ta vb tb vc tc : ℕ) → List Net
 muxGroup v va ta vb tb vc tc =
     let p = v + 1 in
@@ -72,7 +72,7 @@ muxGroup v va ta vb tb vc tc =
     let r = v + 3 in
     let w = v + 4 in
     let z = v + 5 in
-    net MUX va vb vc ∷ net OR va vb 0 ∷ net OR ta tb 0 ∷ net OR p q 0 ∷ net AND tc r 0 ∷ net MUX ta tb vc ∷ net OR w z 0 ∷ []
+    net MUX va vb vc ∷ net XOR va vb 0 ∷ net OR ta tb 0 ∷ net OR p q 0 ∷ net AND tc r 0 ∷ net MUX ta tb vc ∷ net OR w z 0 ∷ []
 
 -- OUT va, free; OUT ta, free
 abbrev pub outGroup : (va ta : ℕ) → List Net

@@ -5,6 +5,7 @@ use gates::AND;
 use gates::MUX;
 use gates::NOT;
 use gates::OR;
+use gates::XOR;
 use image::Net;
 use image::put_net;
 ghost use mathlib.Core.Path.{_≡_};
@@ -92,8 +93,8 @@ pub fn put_mux(d: &mut [u8], size: usize, v: usize, a: Pair, b: Pair, c: Pair)
     let z = v + 5;
     // MUX(va, vb, vc).
     put(d, size, v, MUX, a.value, b.value, c.value);
-    // p = OR(va, vb); q = OR(ta, tb).
-    put_two(d, size, p, OR, a.value, b.value, OR, a.mark, b.mark);
+    // p = XOR(va, vb); q = OR(ta, tb).
+    put_two(d, size, p, XOR, a.value, b.value, OR, a.mark, b.mark);
     // r = OR(p, q); w = AND(tc, r).
     put_two(d, size, r, OR, p, q, AND, c.mark, r);
     // z = MUX(ta, tb, vc).

@@ -22,8 +22,8 @@ fn stepped(image: &[u8], state: &[u8], row: &[u8], n: usize) -> (Verdict, Vec<u8
 // - Row 2: NOT 2 is 3, AND(2, 3) is 2, OR(1, 2) is 1, MUX(3, 2, 0) is 3,
 //   XOR(1, 3) is 2, OUT 2: a flow. State 3.
 // - Row 0: NOT 0 is 1, AND(0, 1) is 0, OR(1, 0) is 1, MUX(1, 0, 3) chooses b,
-//   which is 0, and is marked because a is 1, so it is 2; XOR(1, 2) is 3, OUT
-//   3: a flow. State 2.
+//   which is 0, and is marked because a and b differ, so it is 2; XOR(1, 2) is
+//   3, OUT 3: a flow. State 2.
 #[test]
 fn the_nine_kinds_by_steps() {
     let image = nine_kinds();

@@ -1,4 +1,5 @@
-//! Doubled images written out byte for byte by hand.
+//! Doubled images written out byte for byte by hand. p in the group of a MUX is
+//! XOR(va, vb), by request L5 of document 02.
 
 use crate::images::*;
 use reference::{double, doubled_size};
@@ -60,8 +61,8 @@ const DOUBLED_NINE: [u8; 239] = [
     4, 4, 4, 4, 5, 5,
     // OR, NOT, NOT, AND, AND, AND, OR, OR.
     5, 3, 3, 4, 4, 4, 5, 5,
-    // MUX, OR, OR, OR, AND, MUX, OR.
-    7, 5, 5, 5, 4, 7, 5,
+    // MUX, XOR, OR, OR, AND, MUX, OR.
+    7, 6, 5, 5, 4, 7, 5,
     // XOR, OR; OUT, OUT.
     6, 5, 8, 8,
     // Net 0 REG(6, start 2): 0 REG(22, start 2); 1 REG(28, start 1).
@@ -95,7 +96,7 @@ const DOUBLED_NINE: [u8; 239] = [
     5, 0, 13, 0, 0, 0,
     17, 0, 18, 0, 0, 0,
     20, 0, 19, 0, 0, 0,
-    // Net 6 MUX(3, 4, 0): 22 MUX(6, 8, 0); 23 p = OR(6, 8); 24 q = OR(7, 13);
+    // Net 6 MUX(3, 4, 0): 22 MUX(6, 8, 0); 23 p = XOR(6, 8); 24 q = OR(7, 13);
     // 25 r = OR(23, 24); 26 w = AND(1, 25); 27 z = MUX(7, 13, 0);
     // 28 OR(26, 27).
     6, 0, 8, 0, 0, 0,
@@ -130,8 +131,8 @@ const DOUBLED_MUXES: [u8; 148] = [
     // N 20, I 2, R 0, O 0.
     20, 0, 2, 0, 0, 0, 0, 0,
     1, 1, 3, 5, 3, 5,
-    7, 5, 5, 5, 4, 7, 5,
-    7, 5, 5, 5, 4, 7, 5,
+    7, 6, 5, 5, 4, 7, 5,
+    7, 6, 5, 5, 4, 7, 5,
     // 0 INPUT; 1 INPUT.
     0, 0, 0, 0, 0, 0,
     0, 0, 0, 0, 0, 0,
@@ -140,7 +141,7 @@ const DOUBLED_MUXES: [u8; 148] = [
     1, 0, 1, 0, 0, 0,
     2, 0, 0, 0, 0, 0,
     3, 0, 3, 0, 0, 0,
-    // 6 MUX(0, 2, 4); 7 p = OR(0, 2); 8 q = OR(1, 3); 9 r = OR(7, 8);
+    // 6 MUX(0, 2, 4); 7 p = XOR(0, 2); 8 q = OR(1, 3); 9 r = OR(7, 8);
     // 10 w = AND(5, 9); 11 z = MUX(1, 3, 4); 12 OR(10, 11).
     0, 0, 2, 0, 4, 0,
     0, 0, 2, 0, 0, 0,
@@ -149,7 +150,7 @@ const DOUBLED_MUXES: [u8; 148] = [
     5, 0, 9, 0, 0, 0,
     1, 0, 3, 0, 4, 0,
     10, 0, 11, 0, 0, 0,
-    // 13 MUX(4, 0, 2); 14 p = OR(4, 0); 15 q = OR(5, 1); 16 r = OR(14, 15);
+    // 13 MUX(4, 0, 2); 14 p = XOR(4, 0); 15 q = OR(5, 1); 16 r = OR(14, 15);
     // 17 w = AND(3, 16); 18 z = MUX(5, 1, 2); 19 OR(17, 18).
     4, 0, 0, 0, 2, 0,
     4, 0, 0, 0, 0, 0,

@@ -1,6 +1,8 @@
-//! The gate functions on bytes: C1 to C11 and full tables.
+//! The gate functions on bytes: C1 to C11 and full tables. MUX and C10 follow
+//! request L5 of document 02.
 
 use crate::counter::counter_run;
+use crate::samples::all_triples;
 use reference::{and_byte, mux_byte, not_byte, or_byte, xor_byte};
 
 #[test]
@@ -26,7 +28,7 @@ fn c7_to_c11_are_mux() {
     assert_eq!(mux_byte(0, 3, 0), 0);
     assert_eq!(mux_byte(0, 3, 1), 3);
     assert_eq!(mux_byte(0, 0, 2), 0);
-    assert_eq!(mux_byte(1, 1, 2), 3);
+    assert_eq!(mux_byte(1, 1, 2), 1);
     assert_eq!(mux_byte(0, 1, 2), 2);
 }
 
@@ -68,15 +70,16 @@ fn the_table_of_xor() {
 }
 
 // One table for each c; rows are a, columns are b. With c = 0 the gate is a,
-// with c = 1 it is b. With c = 2 it has the value of a, with c = 3 that of b,
-// and in both it is marked unless a and b are both the byte 0.
+// with c = 1 it is b. With c = 2 it has the value of a, with c = 3 that of b, and
+// in both it is marked if a and b differ or ta or tb is 1: unless a and b are both
+// the byte 0 or both the byte 1.
 #[test]
 fn the_table_of_mux() {
     let tables = [
         [[0, 0, 0, 0], [1, 1, 1, 1], [2, 2, 2, 2], [3, 3, 3, 3]],
         [[0, 1, 2, 3], [0, 1, 2, 3], [0, 1, 2, 3], [0, 1, 2, 3]],
-        [[0, 2, 2, 2], [3, 3, 3, 3], [2, 2, 2, 2], [3, 3, 3, 3]],
-        [[0, 3, 2, 3], [2, 3, 2, 3], [2, 3, 2, 3], [2, 3, 2, 3]],
+        [[0, 2, 2, 2], [3, 1, 3, 3], [2, 2, 2, 2], [3, 3, 3, 3]],
+        [[0, 3, 2, 3], [2, 1, 2, 3], [2, 3, 2, 3], [2, 3, 2, 3]],
     ];
     for (c, table) in tables.into_iter().enumerate() {
         check_table(|a, b| mux_byte(a, b, c as u8), table);
@@ -92,19 +95,22 @@ fn check_table(gate: impl Fn(u8, u8) -> u8, table: [[u8; 4]; 4]) {
     }
 }
 
-// Document 01 composes MUX of a NOT, two ANDs and an OR. The composition with
-// the gate rules gives the same byte for all 64 triples.
+// A NOT, two ANDs and an OR choose between a and b as a MUX does. They give the
+// byte of the MUX for 62 of the 64 triples. With a = b = 1 and a marked c, both
+// ANDs are marked, one with the value 1 and one with 0: OR(3, 2) or OR(2, 3),
+// which are 3. The MUX is 1 there, since a and b are equal and unmarked.
 #[test]
-fn mux_is_its_composition() {
-    for a in 0..4 {
-        for b in 0..4 {
-            for c in 0..4 {
-                let from_a = and_byte(a, not_byte(c));
-                let from_b = and_byte(b, c);
-                assert_eq!(mux_byte(a, b, c), or_byte(from_a, from_b));
-            }
+fn mux_is_marked_less_than_its_composition_at_two_triples() {
+    let mut found = Vec::new();
+    for [a, b, c] in all_triples() {
+        let from_a = and_byte(a, not_byte(c));
+        let from_b = and_byte(b, c);
+        let composed = or_byte(from_a, from_b);
+        if mux_byte(a, b, c) != composed {
+            found.push(([a, b, c], mux_byte(a, b, c), composed));
         }
     }
+    assert_eq!(found, [([1, 1, 2], 1, 3), ([1, 1, 3], 1, 3)]);
 }
 
 // Document 01's formulas for AND, OR and XOR are symmetric in a and b.

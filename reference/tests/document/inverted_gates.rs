@@ -80,15 +80,16 @@ fn xor_with_inverted_pins() {
 
 // The tables of MUX for c = 0 to 3 in gates.rs, with rows exchanged. With c = 0
 // it is a inverted, and with c = 1 it is b. With c = 2 or 3 it is marked unless
-// net a has the byte 1 and net b the byte 0.
+// net a has the byte 1 and net b the byte 0, or net a the byte 0 and net b the
+// byte 1.
 #[test]
 fn mux_with_a_inverted() {
     let gate = (MUX, inverted(0), 1, 2);
     let tables = [
         [[1, 1, 1, 1], [0, 0, 0, 0], [3, 3, 3, 3], [2, 2, 2, 2]],
         [[0, 1, 2, 3], [0, 1, 2, 3], [0, 1, 2, 3], [0, 1, 2, 3]],
-        [[3, 3, 3, 3], [0, 2, 2, 2], [3, 3, 3, 3], [2, 2, 2, 2]],
-        [[2, 3, 2, 3], [0, 3, 2, 3], [2, 3, 2, 3], [2, 3, 2, 3]],
+        [[3, 1, 3, 3], [0, 2, 2, 2], [3, 3, 3, 3], [2, 2, 2, 2]],
+        [[2, 1, 2, 3], [0, 3, 2, 3], [2, 3, 2, 3], [2, 3, 2, 3]],
     ];
     for (c, table) in tables.into_iter().enumerate() {
         has_table(gate, c as u8, table);
@@ -97,15 +98,15 @@ fn mux_with_a_inverted() {
 
 // The tables of MUX with columns exchanged. With c = 0 it is a, and with c = 1
 // it is b inverted. With c = 2 or 3 it is marked unless net a has the byte 0 and
-// net b the byte 1.
+// net b the byte 1, or net a the byte 1 and net b the byte 0.
 #[test]
 fn mux_with_b_inverted() {
     let gate = (MUX, 0, inverted(1), 2);
     let tables = [
         [[0, 0, 0, 0], [1, 1, 1, 1], [2, 2, 2, 2], [3, 3, 3, 3]],
         [[1, 0, 3, 2], [1, 0, 3, 2], [1, 0, 3, 2], [1, 0, 3, 2]],
-        [[2, 0, 2, 2], [3, 3, 3, 3], [2, 2, 2, 2], [3, 3, 3, 3]],
-        [[3, 0, 3, 2], [3, 2, 3, 2], [3, 2, 3, 2], [3, 2, 3, 2]],
+        [[2, 0, 2, 2], [1, 3, 3, 3], [2, 2, 2, 2], [3, 3, 3, 3]],
+        [[3, 0, 3, 2], [1, 2, 3, 2], [3, 2, 3, 2], [3, 2, 3, 2]],
     ];
     for (c, table) in tables.into_iter().enumerate() {
         has_table(gate, c as u8, table);
@@ -120,12 +121,31 @@ fn mux_with_c_inverted() {
     let tables = [
         [[0, 1, 2, 3], [0, 1, 2, 3], [0, 1, 2, 3], [0, 1, 2, 3]],
         [[0, 0, 0, 0], [1, 1, 1, 1], [2, 2, 2, 2], [3, 3, 3, 3]],
-        [[0, 3, 2, 3], [2, 3, 2, 3], [2, 3, 2, 3], [2, 3, 2, 3]],
-        [[0, 2, 2, 2], [3, 3, 3, 3], [2, 2, 2, 2], [3, 3, 3, 3]],
+        [[0, 3, 2, 3], [2, 1, 2, 3], [2, 3, 2, 3], [2, 3, 2, 3]],
+        [[0, 2, 2, 2], [3, 1, 3, 3], [2, 2, 2, 2], [3, 3, 3, 3]],
     ];
     for (c, table) in tables.into_iter().enumerate() {
         has_table(gate, c as u8, table);
     }
+}
+
+// With a and b inverted, two nets of byte 0 and two of byte 1 are both equal and
+// unmarked: they give 1 and 0 also with a marked select. A net of byte 0 and one
+// of byte 1 differ, and the value is that of the chosen net inverted. So it is,
+// too, with c inverted, which chooses the other of the two.
+#[test]
+fn a_marked_select_between_two_inverted_pins() {
+    let (a, b, c) = (inverted(0), inverted(1), inverted(2));
+    for select in [2, 3] {
+        for gate in [(MUX, a, b, 2), (MUX, a, b, c)] {
+            assert_eq!(gate_byte(gate, [0, 0, select]), 1);
+            assert_eq!(gate_byte(gate, [1, 1, select]), 0);
+        }
+    }
+    assert_eq!(gate_byte((MUX, a, b, 2), [0, 1, 2]), 3);
+    assert_eq!(gate_byte((MUX, a, b, 2), [0, 1, 3]), 2);
+    assert_eq!(gate_byte((MUX, a, b, c), [0, 1, 2]), 2);
+    assert_eq!(gate_byte((MUX, a, b, c), [0, 1, 3]), 3);
 }
 
 // An inverted pin leaves its net as it is: the OUTs behind it read the INPUT's

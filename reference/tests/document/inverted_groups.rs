@@ -124,28 +124,28 @@ fn the_groups_of_an_or() {
     ]);
 }
 
-// MUX(va, vb, vc); p = OR(va, vb); q = OR(ta, tb); r = OR(p, q); w = AND(tc, r);
+// MUX(va, vb, vc); p = XOR(va, vb); q = OR(ta, tb); r = OR(p, q); w = AND(tc, r);
 // z = MUX(ta, tb, vc); OR(w, z). The nets are 6, p = 7, q = 8, r = 9, w = 10, z
-// = 11 and 12.
+// = 11 and 12. The XOR is that of request L5.
 #[test]
 #[rustfmt::skip]
 fn the_groups_of_a_mux() {
     let (a, b, c) = (inverted(0), inverted(1), inverted(2));
     let (va, vb, vc) = (inverted(0), inverted(2), inverted(4));
     has_group((MUX, a, 1, 2), &[
-        (MUX, va, 2, 4), (OR, va, 2, 0), (OR, 1, 3, 0), (OR, 7, 8, 0),
+        (MUX, va, 2, 4), (XOR, va, 2, 0), (OR, 1, 3, 0), (OR, 7, 8, 0),
         (AND, 5, 9, 0), (MUX, 1, 3, 4), (OR, 10, 11, 0),
     ]);
     has_group((MUX, 0, b, 2), &[
-        (MUX, 0, vb, 4), (OR, 0, vb, 0), (OR, 1, 3, 0), (OR, 7, 8, 0),
+        (MUX, 0, vb, 4), (XOR, 0, vb, 0), (OR, 1, 3, 0), (OR, 7, 8, 0),
         (AND, 5, 9, 0), (MUX, 1, 3, 4), (OR, 10, 11, 0),
     ]);
     has_group((MUX, 0, 1, c), &[
-        (MUX, 0, 2, vc), (OR, 0, 2, 0), (OR, 1, 3, 0), (OR, 7, 8, 0),
+        (MUX, 0, 2, vc), (XOR, 0, 2, 0), (OR, 1, 3, 0), (OR, 7, 8, 0),
         (AND, 5, 9, 0), (MUX, 1, 3, vc), (OR, 10, 11, 0),
     ]);
     has_group((MUX, a, b, c), &[
-        (MUX, va, vb, vc), (OR, va, vb, 0), (OR, 1, 3, 0), (OR, 7, 8, 0),
+        (MUX, va, vb, vc), (XOR, va, vb, 0), (OR, 1, 3, 0), (OR, 7, 8, 0),
         (AND, 5, 9, 0), (MUX, 1, 3, vc), (OR, 10, 11, 0),
     ]);
 }

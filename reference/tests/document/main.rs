@@ -1,4 +1,4 @@
-//! Tests of the reference against document 01 and requests L1 to L4 of document
+//! Tests of the reference against document 01 and requests L1 to L5 of document
 //! 02.
 //!
 //! Every expected value is a line of these documents or is worked out by hand
@@ -13,6 +13,8 @@ mod counter;
 mod cycles;
 mod doubled_bytes;
 mod doubling;
+mod exact_by_hand;
+mod exact_marks;
 mod gates;
 mod images;
 mod inverted_as_not;

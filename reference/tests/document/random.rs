@@ -17,7 +17,8 @@ impl Numbers {
         (self.0 >> 33) as usize % count
     }
 
-    fn operand(&mut self, count: usize) -> u16 {
+    /// The same, as an operand.
+    pub fn operand(&mut self, count: usize) -> u16 {
         self.below(count) as u16
     }
 

@@ -105,8 +105,8 @@ fn the_counter_without_a_reset() {
 // The netlist of the nine kinds from its static power-up, by hand:
 //
 // - Row 4, state 6: NOT 4 is 4, AND(4, 4) is 4, OR(1, 4) is 1. MUX(4, 4, 6) is
-//   unknown, and marked where a is filled with 1: 6. XOR(1, 6) is 6, OUT 6: a
-//   flow. The state becomes net 6, which is 6.
+//   unknown, and marked where a and b are filled with different values: 6.
+//   XOR(1, 6) is 6, OUT 6: a flow. The state becomes net 6, which is 6.
 // - Row 1, state 6: NOT 1 is 0, AND(1, 0) is 0, OR(1, 0) is 1, MUX(0, 0, 6) is
 //   0, XOR(1, 0) is 1, OUT 1. State 0.
 // - Row 4, state 0: NOT 4 is 4, AND(4, 4) is 4, OR(1, 4) is 1, MUX(4, 4, 0) is
@@ -194,7 +194,9 @@ fn a_net_is_filled_at_each_pin() {
 }
 
 // CONSTs 0 and 1 have the codes 0 and 1. Their gates on a row of 6: AND(0, 6) is
-// 0, OR(1, 6) is 1, and MUX(1, 1, 6) is 3, a flow.
+// 0, OR(1, 6) is 1, and MUX(1, 1, 6) is 1, so their protected OUTs are clear. A
+// row of 4 gives the same. MUX(1, 0, 6) is 6 and MUX(1, 0, 4) is 4, with a free
+// OUT.
 #[test]
 fn constants_are_known() {
     let source = sample(&[
@@ -207,10 +209,12 @@ fn constants_are_known() {
         (OUT, 3, 1, 0),
         (OUT, 4, 1, 0),
         (OUT, 5, 1, 0),
+        (MUX, 1, 0, 2),
+        (OUT, 9, 0, 0),
     ]);
-    let expected = ran((0, Verdict::Flow(8)), &[0, 1, 3], &[]);
+    let expected = ran((1, Verdict::Clear), &[0, 1, 1, 6], &[]);
     assert_eq!(source.static_run(&[], 1, &[6]), expected);
-    let expected = ran((1, Verdict::Clear), &[0, 1, 1], &[]);
+    let expected = ran((1, Verdict::Clear), &[0, 1, 1, 4], &[]);
     assert_eq!(source.static_run(&[], 1, &[4]), expected);
 }
 

@@ -1,5 +1,5 @@
 //! The static gates against their rule, over all 216 triples of codes: request L4
-//! of document 02.
+//! of document 02, with the MUX of request L5.
 
 use crate::codes::*;
 use crate::images::INPUT;
@@ -90,22 +90,58 @@ fn the_fillings_of_all_triples() {
     assert_eq!(count, 512);
 }
 
-/// Document 01's composition of MUX, made of the static gates.
+/// The code of MUX, filled and joined as above, with the mark that document 01
+/// gives it: with c marked, it is marked when any of a, b, ta, tb is 1.
+fn mux_marked_as_composed(a: u8, b: u8, c: u8) -> u8 {
+    let byte = |[a, b, c]: [u8; 3]| {
+        let chosen = [a, b][usize::from(c % 2)];
+        match c / 2 {
+            0 => chosen,
+            _ => chosen % 2 + 2 * u8::from(a != 0 || b != 0),
+        }
+    };
+    join(chosen_fillings([a, b, c]).map(byte))
+}
+
+// Request L5 marks a filling less only where c is marked and a and b are both the
+// byte 1. A code is marked less only where all its fillings are of this form: a
+// and b are 1 and c is 2, 3 or 6. These are three of the 216 triples, with the
+// value 1.
+#[test]
+fn the_truth_table_of_mux_unmarks_three_triples() {
+    let mut found = Vec::new();
+    for [a, b, c] in all_code_triples() {
+        let composed = mux_marked_as_composed(a, b, c);
+        if mux_code(a, b, c) != composed {
+            found.push(([a, b, c], mux_code(a, b, c), composed));
+        }
+    }
+    let three = [([1, 1, 2], 1, 3), ([1, 1, 3], 1, 3), ([1, 1, 6], 1, 3)];
+    assert_eq!(found, three);
+}
+
+/// A choice between a and b made of a NOT, two ANDs and an OR, all of them static
+/// gates.
 fn composed_mux(a: u8, b: u8, c: u8) -> u8 {
     let from_a = and_code(a, not_code(c));
     let from_b = and_code(b, c);
     or_code(from_a, from_b)
 }
 
-// The composition fills the select once for each AND, so it does not see that one
-// of them passes. It differs where the select is unknown and both pins have the
-// value 1: there the value is known, and the composition gives an unknown one.
-// With a and b among 1 and 3 and c among 4 and 6 these are 8 triples.
+// The composition reads the select at each AND, so it does not see that one of
+// them passes. It differs only where both pins have the value 1:
+//
+// - With an unknown select it has an unknown value, where that of MUX is known.
+//   With a and b among 1 and 3 and c among 4 and 6 these are 8 triples.
+// - With a marked select it is marked also where a and b are trusted, where MUX is
+//   not. With a = b = 1 and c among 2, 3 and 6 these are 3 triples.
+//
+// The triple 1, 1, 6 is one of both, so they are 10 in all.
 #[test]
-fn mux_differs_from_the_composition_of_static_gates_at_eight_triples() {
+fn mux_differs_from_the_composition_of_static_gates_at_ten_triples() {
     let differs = |[a, b, c]: &[u8; 3]| mux_code(*a, *b, *c) != composed_mux(*a, *b, *c);
     let found: Vec<_> = all_code_triples().into_iter().filter(differs).collect();
-    let mut expected = Vec::new();
+    let mut expected = vec![[1, 1, 2], [1, 1, 3]];
     for a in [1, 3] {
         for b in [1, 3] {
             for c in [4, 6] {
@@ -114,25 +150,39 @@ fn mux_differs_from_the_composition_of_static_gates_at_eight_triples() {
         }
     }
     assert_eq!(found, expected);
-    assert_eq!(found.len(), 8);
+    assert_eq!(found.len(), 10);
 }
 
-// At these eight the composition has the same mark and an unknown value. With c =
-// 4 the mark is that of a or b, and with c = 6 it is 1.
+// By hand, as AND, AND and OR: with c = 2, OR(3, 2), and with c = 3, OR(2, 3),
+// both 3. With c = 4 each AND of 1 is 4 and of 3 is 6, and with c = 6 each is 6:
+// their OR is 4 if both are 4, otherwise 6. MUX has the value 1. With c = 4 its
+// mark is that of a or b. With c among 2, 3 and 6 a and b do not differ, so it is
+// that as well.
 #[test]
-fn the_eight_triples() {
-    let eight = [
+fn the_ten_triples() {
+    let ten = [
+        ([1, 1, 2], 1, 3),
+        ([1, 1, 3], 1, 3),
         ([1, 1, 4], 1, 4),
         ([1, 3, 4], 3, 6),
         ([3, 1, 4], 3, 6),
         ([3, 3, 4], 3, 6),
-        ([1, 1, 6], 3, 6),
+        ([1, 1, 6], 1, 6),
         ([1, 3, 6], 3, 6),
         ([3, 1, 6], 3, 6),
         ([3, 3, 6], 3, 6),
     ];
-    for ([a, b, c], mux, composed) in eight {
+    for ([a, b, c], mux, composed) in ten {
         assert_eq!(mux_code(a, b, c), mux);
         assert_eq!(composed_mux(a, b, c), composed);
+    }
+}
+
+// At every triple the composition covers MUX: it is marked if MUX is, and it
+// leaves open what MUX leaves open.
+#[test]
+fn the_composition_of_static_gates_covers_mux() {
+    for [a, b, c] in all_code_triples() {
+        assert!(covers(composed_mux(a, b, c), mux_code(a, b, c)));
     }
 }

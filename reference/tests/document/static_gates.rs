@@ -80,24 +80,30 @@ fn xor_of_unknown_bits() {
 
 // - MUX(1, 1, 4): a and b, both 1, known. MUX(0, 1, 4): 0 and 1.
 // - MUX(0, 2, 4): 0 and 2, so the value is 0 and the mark 1.
-// - MUX(1, 1, 6): the select is marked and a is 1, so 3 for both values of it.
-// - MUX(0, 0, 6): the select is marked and a, b, ta and tb are 0, so 0 for both.
-// - MUX(0, 1, 6): value a and value b, marked since b is 1: 2 and 3.
+// - MUX(1, 1, 6): the select is marked, but a and b do not differ and are
+//   unmarked, so 1 for both values of it. MUX(0, 0, 6) likewise is 0.
+// - MUX(1, 3, 6): a and b do not differ, but b is marked, so 3 for both.
+// - MUX(0, 1, 6): value a and value b, marked since they differ: 2 and 3.
 // - MUX(4, 1, 0): a, which is 0 and 1. MUX(4, 1, 1): b, which is 1.
 // - MUX(0, 4, 2): value a, which is 0, and marked where b is filled with 1.
 // - MUX(0, 4, 3): value b: 0, not marked, and 1, marked.
+// - MUX(1, 4, 2): value a, which is 1, and marked where b is filled with 0.
+// - MUX(4, 4, 2): value a: 0 and 1, and marked where b is filled with the other.
 #[test]
 fn mux_of_unknown_bits() {
     assert_eq!(mux_code(1, 1, 4), 1);
     assert_eq!(mux_code(0, 1, 4), 4);
     assert_eq!(mux_code(0, 2, 4), 2);
-    assert_eq!(mux_code(1, 1, 6), 3);
+    assert_eq!(mux_code(1, 1, 6), 1);
     assert_eq!(mux_code(0, 0, 6), 0);
+    assert_eq!(mux_code(1, 3, 6), 3);
     assert_eq!(mux_code(0, 1, 6), 6);
     assert_eq!(mux_code(4, 1, 0), 4);
     assert_eq!(mux_code(4, 1, 1), 1);
     assert_eq!(mux_code(0, 4, 2), 2);
     assert_eq!(mux_code(0, 4, 3), 6);
+    assert_eq!(mux_code(1, 4, 2), 3);
+    assert_eq!(mux_code(4, 4, 2), 6);
 }
 
 // The table of AND in gates.rs, and behind it column 4, which joins columns 0 and
@@ -153,15 +159,16 @@ fn the_static_table_of_mux_with_a_trusted_select() {
 }
 
 // With c = 2 the value is that of a, unknown where a is, and with c = 3 that of
-// b. In both each entry is marked but that of 0 and 0: in every other one of the
-// pins is marked, or is 1, or is filled with 1.
+// b. In both each entry is marked but those of 0 and 0 and of 1 and 1: in every
+// other entry a or b is marked, or they differ, or they are filled so that they
+// do.
 #[test]
 fn the_static_table_of_mux_with_an_untrusted_select() {
     let marked = [2, 3, 2, 3, 6, 6];
     let mut of_a = marked.map(|a| [a; 6]);
     let mut of_b = [marked; 6];
-    of_a[0][0] = 0;
-    of_b[0][0] = 0;
+    (of_a[0][0], of_a[1][1]) = (0, 1);
+    (of_b[0][0], of_b[1][1]) = (0, 1);
     check_table(|a, b| mux_code(a, b, 2), of_a);
     check_table(|a, b| mux_code(a, b, 3), of_b);
 }
@@ -182,12 +189,12 @@ fn the_static_table_of_mux_with_an_unknown_trusted_select() {
 }
 
 // With c = 6 an entry joins those of c = 2 and c = 3: its value is known where a
-// and b are known and agree, and it is marked but for 0 and 0.
+// and b are known and agree, and it is marked but for 0 and 0 and for 1 and 1.
 #[test]
 fn the_static_table_of_mux_with_an_unknown_untrusted_select() {
     let table = [
         [0, 6, 2, 6, 6, 6],
-        [6, 3, 6, 3, 6, 6],
+        [6, 1, 6, 3, 6, 6],
         [2, 6, 2, 6, 6, 6],
         [6, 3, 6, 3, 6, 6],
         [6, 6, 6, 6, 6, 6],

@@ -140,7 +140,8 @@ fn where_the_wrong_readings_of_and_are_too_narrow() {
 
 // Composed of static gates, MUX of two CONSTs 1 with the select 4 would be 4: OR
 // of AND(1, 4) and AND(1, 4). By the rule it is 1 for both fillings. With the
-// select 6 it is 3 and not 6. The gates themselves, as nets, give 4 and 6.
+// select 6 it is 1 as well and not 6, since two equal trusted values do not mark
+// it (request L5). The gates themselves, as nets, give 4 and 6.
 #[test]
 fn a_mux_is_filled_as_a_whole() {
     let source = sample(&[
@@ -154,7 +155,7 @@ fn a_mux_is_filled_as_a_whole() {
         (OUT, 5, 0, 0),
     ]);
     let (_, outputs, _) = source.static_run(&[], 2, &[4, 6]);
-    assert_eq!(outputs, [1, 4, 3, 6]);
+    assert_eq!(outputs, [1, 4, 1, 6]);
 }
 
 // With one filling for a net, XOR of it with itself would be a known 0, and with

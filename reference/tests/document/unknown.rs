@@ -52,7 +52,8 @@ fn a_run_of_no_cycles_is_clear() {
 
 // The gates on a register of byte 2, with CONSTs 0 and 1. NOT 2 is 3. AND(2, 0)
 // is 0 and AND(2, 1) is 2. OR(2, 0) is 2 and OR(2, 1) is 1. XOR(2, 1) is 3. With
-// the register as the select of a MUX, MUX(0, 0, 2) is 0 and MUX(0, 1, 2) is 2.
+// the register as the select of a MUX, MUX(0, 0, 2) is 0, MUX(0, 1, 2) is 2 and
+// MUX(1, 1, 2) is 1.
 #[test]
 fn gates_on_an_unknown_register() {
     let source = sample(&[
@@ -67,9 +68,10 @@ fn gates_on_an_unknown_register() {
         (XOR, 0, 2, 0),
         (MUX, 1, 1, 0),
         (MUX, 1, 2, 0),
+        (MUX, 2, 2, 0),
     ]);
     let (_, nets, _) = source.step(&source.power_up(), &[]);
-    assert_eq!(nets, [2, 0, 1, 3, 0, 2, 2, 1, 3, 0, 2]);
+    assert_eq!(nets, [2, 0, 1, 3, 0, 2, 2, 1, 3, 0, 2, 1]);
 }
 
 // The start acts at power-up alone. A step takes the state that it is lent, of

@@ -1,11 +1,11 @@
 //! "Readings that would be wrong" in document 01, and wrong readings of requests
-//! L1, L2 and L3 of document 02, each as a test that the wrong reading fails.
+//! L1, L2, L3 and L5 of document 02, each as a test that the wrong reading fails.
 
 use crate::counter::{counter_run, CYCLES};
 use crate::images::*;
 use crate::lent::refused;
 use crate::pins::inverted;
-use reference::{double, doubled_size, power_up, run, step, xor_byte, Verdict};
+use reference::{double, doubled_size, mux_byte, power_up, run, step, xor_byte, Verdict};
 
 // With a mark on a gate whenever a pin is marked, AND(3, 0) in cycle 2 would be
 // 2, and the register would be marked for ever. By the rule it is 0, and cycle
@@ -224,4 +224,67 @@ fn the_bit_inverts_neither_the_net_nor_the_gate() {
         step(&image, &mut [], &row, &mut nets).unwrap();
         assert_eq!(nets[2..], ands);
     }
+}
+
+/// A mode switch: the row's byte selects between a CONST a and a CONST b, with a
+/// protected OUT of the MUX as net 4.
+fn mode_switch(a: u16, b: u16) -> Vec<u8> {
+    counted(&[
+        (INPUT, 0, 0, 0),
+        (CONST, a, 0, 0),
+        (CONST, b, 0, 0),
+        (MUX, 1, 2, 0),
+        (OUT, 3, 1, 0),
+    ])
+}
+
+// With the mark of document 01's composition, a marked select between two CONSTs 1
+// would be a flow, and one between two CONSTs 0 would not. By the rule both are
+// clear for every row. Between different CONSTs a marked select is a flow.
+#[test]
+fn a_marked_select_between_equal_constants_is_clear() {
+    for (a, b, outputs) in [(0, 0, [0; 4]), (1, 1, [1; 4])] {
+        let mut found = [77; 4];
+        let answer = run(&mode_switch(a, b), 4, &mut [], &[0, 1, 2, 3], &mut found).unwrap();
+        assert_eq!((answer.cycle, answer.verdict), (4, Verdict::Clear));
+        assert_eq!(found, outputs);
+    }
+    for (a, b, outputs) in [(0, 1, [0, 1, 2, 3]), (1, 0, [1, 0, 3, 2])] {
+        let mut found = [77; 4];
+        let answer = run(&mode_switch(a, b), 4, &mut [], &[0, 1, 2, 3], &mut found).unwrap();
+        assert_eq!((answer.cycle, answer.verdict), (2, Verdict::Flow(4)));
+        assert_eq!(found, outputs);
+    }
+}
+
+// The same switches doubled: 2 + 2 + 2 + 7 + 2 = 15 nets and 8 + 7 * 15 = 113
+// bytes. With p = OR(va, vb) the mark would be 1 between two CONSTs 1. The rows v,
+// t are 0, 1 and 1, 1.
+#[test]
+fn the_doubled_select_between_equal_constants_is_unmarked() {
+    let cases = [
+        (0, 0, [0, 0, 0, 0]),
+        (1, 1, [1, 0, 1, 0]),
+        (0, 1, [0, 1, 1, 1]),
+        (1, 0, [1, 1, 0, 1]),
+    ];
+    for (a, b, outputs) in cases {
+        let mut doubled = [77; 113];
+        double(&mode_switch(a, b), &mut doubled).unwrap();
+        let mut found = [77; 4];
+        run(&doubled, 2, &mut [], &[0, 1, 1, 1], &mut found).unwrap();
+        assert_eq!(found, outputs);
+    }
+}
+
+// With a marked select, equal values are not enough: a mark of either pin marks
+// the MUX. With an unmarked select the other pin does not matter, whether it
+// differs or is marked.
+#[test]
+fn equal_values_unmark_a_mux_only_if_both_pins_are_trusted() {
+    assert_eq!([1, 3].map(|b| mux_byte(1, b, 2)), [1, 3]);
+    assert_eq!([1, 3].map(|a| mux_byte(a, 1, 3)), [1, 3]);
+    assert_eq!([0, 2].map(|b| mux_byte(0, b, 2)), [0, 2]);
+    assert_eq!([0, 1, 2, 3].map(|b| mux_byte(1, b, 0)), [1; 4]);
+    assert_eq!([0, 1, 2, 3].map(|a| mux_byte(a, 1, 1)), [1; 4]);
 }

@@ -63,7 +63,7 @@ fn a_table_is_printed_like_a_gate() {
                 \"xor\" Table 6 rows 4 4 0  4 2 0\n\
                 \"mux\" Table 7 rows 1 1 4  0 1 4  1 1 6  0 0 6\n\
                 \"out\" Table 8 rows 4 0 0  6 0 0  3 0 0\n";
-    let expected = "not: 463\nand: 0420\nor: 16\nxor: 46\nmux: 1430\nout: 463\n";
+    let expected = "not: 463\nand: 0420\nor: 16\nxor: 46\nmux: 1410\nout: 463\n";
     assert_eq!(page(&read_cases(text)), expected);
 }
 
