@@ -32,8 +32,12 @@ unmarked same n = refl
 unmarked low-high n = absurd (n refl)
 unmarked high-low n = absurd (n refl)
 
-zero-alone : {y : ℕ} → AgreeByte 0 y → y ≡ 0
-zero-alone same = refl
+-- and so a 0 that is no pin stays
+no-pin : (f : ℕ → ℕ) {c y : ℕ} → AgreeByte 0 c → f c ≡ y → f 0 ≡ y
+no-pin f same e = e
+
+no-pins : (f : ℕ → ℕ → ℕ) {b c y : ℕ} → AgreeByte 0 b → AgreeByte 0 c → f b c ≡ y → f 0 0 ≡ y
+no-pins f same same e = e
 
 -- PINS. What a pin reads of the byte x of its net, that this is a code if x is, and that it is every byte that agrees with it for some byte that agrees with x
 abbrev pub pinReads : (p x : ℕ) → ℕ
@@ -53,7 +57,7 @@ pin-onto p x y h g = by-test (inverted p) top plain
     top : inverted p ≡ true → Read p x y
     top e =
         let o = not-onto x 0 0 h (lit≤ tt) (lit≤ tt) y (rw e at g) in
-        record { byte = o .pin-a; agrees = o .agree-a; reads = rw (e, ← (zero-alone (o .agree-b)), ← (zero-alone (o .agree-c))) (o .gives) }
+        record { byte = o .pin-a; agrees = o .agree-a; reads = rw e (no-pins (gateByte NOT (o .pin-a)) (o .agree-b) (o .agree-c) (o .gives)) }
 
     plain : inverted p ≡ false → Read p x y
     plain e = record { byte = y; agrees = rw e at g; reads = rw e }
@@ -67,28 +71,26 @@ record Hit (kind : ℕ) (xs : List ℕ) (y : ℕ) : Type 0 where
   agrees : Agree xs bytes
   gives : ofPins kind bytes ≡ y
 
-listed : {kind : ℕ} → Onto (gateByte kind) → {xs : List ℕ} → Forall₂ Code xs xs → length xs ≤ 3 → (y : ℕ) → AgreeByte (ofPins kind xs) y → Hit kind xs y
-listed o Forall₂·nil l y g = 
-    let p = o 0 0 0 (lit≤ tt) (lit≤ tt) (lit≤ tt) y g in
-    record { bytes = []; agrees = Forall₂·nil; gives = rw (← (zero-alone (p .agree-a)), ← (zero-alone (p .agree-b)), ← (zero-alone (p .agree-c))) (p .gives) }
-listed o (Forall₂·cons a Forall₂·nil) l y g =
+listed : {kind : ℕ} → Onto (gateByte kind) → {xs : List ℕ} → Forall₂ Code xs xs → 1 ≤ length xs → length xs ≤ 3 → (y : ℕ) → AgreeByte (ofPins kind xs) y → Hit kind xs y
+listed o Forall₂·nil m l y g = absurd (omega arith)
+listed {kind} o (Forall₂·cons a Forall₂·nil) m l y g =
     let p = o _ 0 0 a (lit≤ tt) (lit≤ tt) y g in
-    record { bytes = p .pin-a ∷ []; agrees = Forall₂·cons (p .agree-a) Forall₂·nil; gives = rw (← (zero-alone (p .agree-b)), ← (zero-alone (p .agree-c))) (p .gives) }
-listed o (Forall₂·cons a (Forall₂·cons b Forall₂·nil)) l y g =
+    record { bytes = p .pin-a ∷ []; agrees = Forall₂·cons (p .agree-a) Forall₂·nil; gives = no-pins (gateByte kind (p .pin-a)) (p .agree-b) (p .agree-c) (p .gives) }
+listed {kind} o (Forall₂·cons a (Forall₂·cons b Forall₂·nil)) m l y g =
     let p = o _ _ 0 a b (lit≤ tt) y g in
     record {
       bytes = p .pin-a ∷ p .pin-b ∷ [];
       agrees = Forall₂·cons (p .agree-a) (Forall₂·cons (p .agree-b) Forall₂·nil);
-      gives = rw (← (zero-alone (p .agree-c))) (p .gives);
+      gives = no-pin (gateByte kind (p .pin-a) (p .pin-b)) (p .agree-c) (p .gives);
     }
-listed o (Forall₂·cons a (Forall₂·cons b (Forall₂·cons c Forall₂·nil))) l y g =
+listed o (Forall₂·cons a (Forall₂·cons b (Forall₂·cons c Forall₂·nil))) m l y g =
     let p = o _ _ _ a b c y g in
     record {
       bytes = p .pin-a ∷ p .pin-b ∷ p .pin-c ∷ [];
       agrees = Forall₂·cons (p .agree-a) (Forall₂·cons (p .agree-b) (Forall₂·cons (p .agree-c) Forall₂·nil));
       gives = p .gives;
     }
-listed o (Forall₂·cons a (Forall₂·cons b (Forall₂·cons c (Forall₂·cons d t)))) l y g = absurd (omega arith)
+listed o (Forall₂·cons a (Forall₂·cons b (Forall₂·cons c (Forall₂·cons d t)))) m l y g = absurd (omega arith)
 
 -- NETS. The bytes of all nets, by the bytes f of the sources
 abbrev pub Bytes : Type 0
@@ -104,7 +106,7 @@ reads B f ps = map (λ p. pinReads p (B f (pinNet p))) ps
 pub data Node (B : Bytes) (i : ℕ) (x : Net) : Type 0 where
   fixed : (v : ℕ) → v ≤ 1 → ((f : ℕ → ℕ) → B f i ≡ v) → Node B i x
   source : isSource x ≡ true → ((f : ℕ → ℕ) → B f i ≡ f i) → Node B i x
-  gate : isSource x ≡ false → Onto (gateByte (x .kind)) → length (pinsOf x) ≤ 3 → ((f : ℕ → ℕ) → B f i ≡ ofPins (x .kind) (reads B f (pinsOf x))) → Node B i x
+  gate : isSource x ≡ false → Onto (gateByte (x .kind)) → 1 ≤ length (pinsOf x) → length (pinsOf x) ≤ 3 → ((f : ℕ → ℕ) → B f i ≡ ofPins (x .kind) (reads B f (pinsOf x))) → Node B i x
 
 -- pins that name nets below net i
 pub data Below (i : ℕ) : List ℕ → Type 0 where
@@ -149,7 +151,7 @@ module _ {n : ℕ} {net : ℕ → Net} {W : ℕ → ℕ → ℕ} {B : Bytes} (c 
       → Node B i (net i) → Same f g (λ j. W j i) → B f i ≡ B g i
   local-node h ih (fixed v l q) e = q _ ∙ sym (q _)
   local-node {i} h ih (source t q) e = q _ ∙ e i t (omega (arith, itself i h)) ∙ sym (q _)
-  local-node {i} h ih (gate k o w q) e =
+  local-node {i} h ih (gate k o w z q) e =
       q _ ∙ ap (ofPins (net i .kind)) (local-pins ih (c .below i h) (λ j t r. e j t (omega (arith, through h k t)))) ∙ sym (q _)
 
   local : (m i : ℕ) → i < m → i < n → (f g : ℕ → ℕ) → Same f g (λ j. W j i) → B f i ≡ B g i
@@ -226,9 +228,10 @@ module _ {n : ℕ} {net : ℕ → Net} {W : ℕ → ℕ → ℕ} {B : Bytes} (c 
           kept = λ j z. let k : eqb i j ≡ false = ne-eqb i j (λ g. omega (arith, itself i h, rw (← g) at z)) in rw k;
           gives = q f ∙ rw (eq-eqb i i refl);
         }
-    reached-node {i} h ih (gate k o w q) single y a =
+    reached-node {i} h ih (gate k o w z q) single y a =
         let ps = pinsOf (net i) in
-        let p = listed o (codes-read ps) (omega (arith, w, length-map ps (λ p. pinReads p (B f₀ (pinNet p))))) y (rw (q f₀) at a) in
+        let l = length-map ps (λ p. pinReads p (B f₀ (pinNet p))) in
+        let p = listed o (codes-read ps) (omega (arith, w, l)) (omega (arith, z, l)) y (rw (q f₀) at a) in
         let v = reached-pins (omega arith) ih (c .below i h) (λ j t m. omega (arith, single j t m, through h k t)) (p .agrees) in
         record {
           f = v .f;

@@ -1,7 +1,7 @@
 -- Marks are exact within one cycle, where no marked source reaches a net along two ways: the nets of an accepted image are a `Circuit`.
 use Prim.Native.Nat.{ℕ, suc, _/_, _%_, _≤_, _<_}
 use native.Mathlib.Omega.{arith}
-use mathlib.Core.Path.{_≡_, refl, sym, ap, ap₂, _∙_}
+use mathlib.Core.Path.{_≡_, refl, sym, subst, _∙_}
 use mathlib.Core.List.{List, [], _∷_, map, Forall₂, Forall₂·nil, Forall₂·cons}
 use mathlib.Core.Option.{none}
 use mathlib.Core.Bool.{Bool, true, false, cond}
@@ -49,8 +49,7 @@ related R k f xs r l h =
     let z = chosen-selected k f in
     pairs-places r (chosen k f 0 xs) 0 (l ∙ sym (selection-length z 0 xs)) (λ p m.
         let g = place-found k xs (net 0 0 0 0) p (omega arith) in
-        let e = rw (g .place) at (selection-place z xs (g .net) _ (g .below) (g .kind)) in
-        rw (e, ← (g .place)) (h (g .net) (g .below) (g .kind)))
+        subst (λ q. R (getD r q 0) (getD (chosen k f 0 xs) q 0)) (g .place) (rw (selection-place z xs (g .net) _ (g .below) (g .kind)) (h (g .net) (g .below) (g .kind))))
 
 -- THE BYTE OF A NET, by its byte in the row or state and by what its pins read
 abbrev nodeByte : Net → (own : ℕ) → (read : ℕ → ℕ) → ℕ
@@ -76,12 +75,12 @@ unfolding pinsOf
 node-of (is-const {a} h) q = fixed a h q
 node-of is-input q = source refl q
 node-of (is-reg h k) q = source refl q
-node-of (is-not h) q = gate refl not-onto (lit≤ tt) q
-node-of (is-and h k) q = gate refl and-onto (lit≤ tt) q
-node-of (is-or h k) q = gate refl or-onto (lit≤ tt) q
-node-of (is-xor h k) q = gate refl xor-onto (lit≤ tt) q
-node-of (is-mux h k l) q = gate refl mux-onto (lit≤ tt) q
-node-of (is-out h k) q = gate refl out-onto (lit≤ tt) q
+node-of (is-not h) q = gate refl not-onto (lit≤ tt) (lit≤ tt) q
+node-of (is-and h k) q = gate refl and-onto (lit≤ tt) (lit≤ tt) q
+node-of (is-or h k) q = gate refl or-onto (lit≤ tt) (lit≤ tt) q
+node-of (is-xor h k) q = gate refl xor-onto (lit≤ tt) (lit≤ tt) q
+node-of (is-mux h k l) q = gate refl mux-onto (lit≤ tt) (lit≤ tt) q
+node-of (is-out h k) q = gate refl out-onto (lit≤ tt) (lit≤ tt) q
 
 -- a marked byte takes the other value
 flipped-value : (x : ℕ) → x ≤ 3 → x / 2 ≡ 1 → flipped x % 2 ≡ x % 2 → ⊥

@@ -1,5 +1,5 @@
 -- Examples of ways and of exact marks, by computation.
-use Prim.Native.Nat.{ℕ, zero, suc, _/_, _≤_}
+use Prim.Native.Nat.{ℕ, zero, suc, _/_, _%_, _≤_}
 use native.Mathlib.Omega.{arith}
 use mathlib.Core.Path.{_≡_, refl}
 use mathlib.Core.List.{List, [], _∷_, Forall₂·nil, Forall₂·cons}
