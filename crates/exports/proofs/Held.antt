@@ -91,12 +91,20 @@ gate-values : (a b : ℕ) → a ≤ 3 → b ≤ 3
     → (notByte a % 2 ≡ (1 + a) % 2) × (andByte a b % 2 ≡ (a * b) % 2) × (orByte a b % 2 ≡ (a + b + a * b) % 2) × (xorByte a b % 2 ≡ (a + b) % 2)
 gate-values a b h k = let g = promised .gate-values in (g .not a h, g .and a b h k, g .or a b h k, g .xor a b h k)
 
-gate-marks : (a b : ℕ) → a ≤ 3 → b ≤ 3
+gate-marks : (a b c : ℕ) → a ≤ 3 → b ≤ 3 → c ≤ 3
     → (notByte a / 2 ≡ 1 → Changed (λ a b c. notByte a) a b 0) × (Changed (λ a b c. andByte a b) a b 0 → andByte a b / 2 ≡ 1)
     × (orByte a b / 2 ≡ 1 → Changed (λ a b c. orByte a b) a b 0) × (Changed (λ a b c. xorByte a b) a b 0 → xorByte a b / 2 ≡ 1)
-gate-marks a b h k =
+    × (muxByte a b c / 2 ≡ 1 → Changed muxByte a b c) × (Changed muxByte a b c → muxByte a b c / 2 ≡ 1)
+gate-marks a b c h k l =
     let g = promised .marks-exact in
-    (g .not a b 0 h k (lit≤ tt) .0, g .and a b 0 h k (lit≤ tt) .1, g .or a b 0 h k (lit≤ tt) .0, g .xor a b 0 h k (lit≤ tt) .1)
+    (
+      g .not a b 0 h k (lit≤ tt) .0,
+      g .and a b 0 h k (lit≤ tt) .1,
+      g .or a b 0 h k (lit≤ tt) .0,
+      g .xor a b 0 h k (lit≤ tt) .1,
+      g .mux a b c h k l .0,
+      g .mux a b c h k l .1,
+    )
 
 changed : {f : (a b c : ℕ) → ℕ} {a b c : ℕ} (d : Changed f a b c)
     → (f (d .other-a) (d .other-b) (d .other-c) % 2 ≡ f a b c % 2 → ⊥) × AgreeByte a (d .other-a) × AgreeByte b (d .other-b) × AgreeByte c (d .other-c)

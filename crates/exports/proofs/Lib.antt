@@ -2,5 +2,6 @@
 pub mod Held
 pub mod HeldDoubling
 pub mod HeldRuns
+pub mod HeldExact
 pub mod HeldBefore
 pub mod HeldStatic

@@ -1,0 +1,114 @@
+-- The promises about exact marks, used by their parts, as in Held; and what they say of a step, in the bytes that it leaves.
+use Prim.Native.Nat.{ℕ, _+_, _/_, _%_, _≤_, _<_}
+use native.Mathlib.Omega.{arith}
+use mathlib.Core.Logic.{_↔_}
+use mathlib.Core.Path.{_≡_, refl, ap, sym, _∙_}
+use mathlib.Core.List.{List, [], _∷_}
+use mathlib.Core.Option.{none}
+use lib.ListN.{length, getD}
+use Rattle.gates.specs.Relations.{AgreeByte, same, low-high, high-low, Agree}
+use Rattle.image.specs.Image.{sizesOf}
+use Rattle.image.specs.Pins.{pinNet}
+use Rattle.image.proofs.Pairs.{pairs-getD, pairs-length}
+use Rattle.checking.specs.Check.{checkRefusal}
+use Rattle.cycle.specs.Calls.{stepRefusal, stepOf}
+use Rattle.claims.specs.Accepted.{NoneAbove3}
+use Rattle.claims.specs.NetBytes.{netOf}
+use Rattle.claims.specs.Ways.{ways}
+use Rattle.claims.specs.Exactness.{byteOf, NoReconvergence, Change}
+use Rattle.claims.specs.ExactnessExamples.{ownXor, select, selectTree, delayed}
+use Rattle.claims.proofs.Promised.{promised}
+
+-- WAYS to a net from another, by the numbers of the kinds
+ways-in : (s : List ℕ) → checkRefusal s ≡ none → (j i : ℕ) → i < sizesOf s .nets → (i ≡ j → ⊥)
+    → let x = netOf s i in
+    let from : ℕ → ℕ = λ p. ways s j (pinNet p) in
+    (x .kind ≤ 2 → ways s j i ≡ 0) × (x .kind ≡ 3 → ways s j i ≡ from (x .a)) × (4 ≤ x .kind → x .kind ≤ 6 → ways s j i ≡ from (x .a) + from (x .b))
+    × (x .kind ≡ 7 → ways s j i ≡ from (x .a) + from (x .b) + from (x .c)) × (x .kind ≡ 8 → ways s j i ≡ from (x .a))
+ways-in s a j i h n = let w = promised .ways-counted s a j i h in (w .no-pin n, w .not n, w .two-pins n, w .mux n, w .out n)
+
+ways-itself : (s : List ℕ) → checkRefusal s ≡ none → (i : ℕ) → i < sizesOf s .nets → ways s i i ≡ 1
+ways-itself s a i h = promised .ways-counted s a i i h .itself refl
+
+-- A STEP. With another row and state, which agree with its own, the value of net i is another one
+record OtherStep (s st row nets : List ℕ) (i : ℕ) : Type 0 where
+  other-row : List ℕ
+  other-state : List ℕ
+  rows : Agree row other-row
+  states : Agree st other-state
+  changed : getD (stepOf s other-state other-row nets .nets) i 0 % 2 ≡ getD (stepOf s st row nets .nets) i 0 % 2 → ⊥
+
+agree-code : {x y : ℕ} → AgreeByte x y → x ≤ 3 → y ≤ 3
+agree-code same h = h
+agree-code low-high h = omega arith
+agree-code high-low h = omega arith
+
+agree-codes : {xs ys : List ℕ} → Agree xs ys → NoneAbove3 xs → NoneAbove3 ys
+agree-codes g h i l = agree-code (pairs-getD i 0 same g) (h i (omega (arith, pairs-length g)))
+
+module _ (s st row nets : List ℕ) (a : stepRefusal s st row nets ≡ none) where
+  -- other rows and states that agree are accepted too
+  agreeing : {row′ st′ : List ℕ} → Agree row row′ → Agree st st′ → stepRefusal s st′ row′ nets ≡ none
+  agreeing g k =
+      let w = promised .when-accepted .step s st row nets .0 a in
+      let t = w .1 in
+      let r = w .2 in
+      promised .when-accepted .step s _ _ nets .1 (
+        w .0,
+        record { size = sym (pairs-length k) ∙ t .size; codes = agree-codes k (t .codes) },
+        record { size = sym (pairs-length g) ∙ r .size; codes = agree-codes g (r .codes) },
+        w .3,
+      )
+
+  step-byte : (row′ st′ : List ℕ) → stepRefusal s st′ row′ nets ≡ none → (i : ℕ) → getD (stepOf s st′ row′ nets .nets) i 0 ≡ byteOf s row′ st′ i
+  step-byte row′ st′ h i = ap (λ o. getD (o .nets) i 0) (promised .step-is-cycle s _ _ nets h)
+
+  -- net i, of which the condition on ways holds in the bytes of this step, is marked in them exactly if there is such another step
+  module _ (i : ℕ) (l : i < sizesOf s .nets)
+      (inputs : (j : ℕ) → netOf s j .kind ≡ 1 → getD (stepOf s st row nets .nets) j 0 / 2 ≡ 1 → ways s j i ≤ 1)
+      (registers : (j : ℕ) → netOf s j .kind ≡ 2 → getD (stepOf s st row nets .nets) j 0 / 2 ≡ 1 → ways s j i ≤ 1) where
+    exact : (byteOf s row st i / 2 ≡ 1) ↔ Change s row st i
+    exact =
+        let w = promised .when-accepted .step s st row nets .0 a in
+        promised .exactness s row st (promised .when-accepted .check s .1 (w .0)) (w .2) (w .1) i l
+        (record { inputs = λ j k m. inputs j k (rw (step-byte row st a j) m); registers = λ j k m. registers j k (rw (step-byte row st a j) m) })
+
+    marked-changes : getD (stepOf s st row nets .nets) i 0 / 2 ≡ 1 → OtherStep s st row nets i
+    marked-changes m =
+        let d = exact .0 (rw (step-byte row st a i) at m) in
+        record {
+          other-row = d .other-row;
+          other-state = d .other-state;
+          rows = d .rows;
+          states = d .states;
+          changed = λ e. d .changed (rw (step-byte _ _ (agreeing (d .rows) (d .states)) i, step-byte row st a i) at e);
+        }
+
+    changes-marked : OtherStep s st row nets i → getD (stepOf s st row nets .nets) i 0 / 2 ≡ 1
+    changes-marked o =
+        rw (step-byte row st a i)
+        (exact .1 (record {
+          other-row = o .other-row;
+          other-state = o .other-state;
+          rows = o .rows;
+          states = o .states;
+          changed = λ e. o .changed (rw (step-byte _ _ (agreeing (o .rows) (o .states)) i, step-byte row st a i) e);
+        }))
+
+-- EXAMPLES
+two-ways : (ways ownXor 0 1 ≡ 2) × (byteOf ownXor (2 ∷ []) [] 1 ≡ 2) × (Change ownXor (2 ∷ []) [] 1 → ⊥)
+    × (ways select 1 5 ≡ 2) × (byteOf select (1 ∷ 2 ∷ []) [] 5 ≡ 3) × (Change select (1 ∷ 2 ∷ []) [] 5 → ⊥)
+two-ways = let e = promised .exactness-examples in (e .xor-ways, e .xor-marked, e .xor-unchanged, e .gates-ways, e .gates-marked, e .gates-unchanged)
+
+one-way : (ways select 1 6 ≡ 1) × (ways select 0 6 ≡ 2) × NoReconvergence select (1 ∷ 2 ∷ []) [] 6 × (byteOf select (1 ∷ 2 ∷ []) [] 6 ≡ 1) × (Change select (1 ∷ 2 ∷ []) [] 6 → ⊥)
+one-way = let e = promised .exactness-examples in (e .mux-ways .0, e .mux-ways .1, e .mux-exact, e .mux-unmarked, e .mux-unchanged)
+
+tree : (row : List ℕ) → NoReconvergence selectTree row [] 5 × (byteOf selectTree (2 ∷ 1 ∷ []) [] 5 ≡ 2) × Change selectTree (2 ∷ 1 ∷ []) [] 5
+    × (byteOf selectTree (1 ∷ 2 ∷ []) [] 5 ≡ 1) × (Change selectTree (1 ∷ 2 ∷ []) [] 5 → ⊥)
+tree row = let e = promised .exactness-examples in (e .tree-exact row, e .tree-marked, e .tree-changes, e .tree-unmarked, e .tree-unchanged)
+
+register : (row st : List ℕ) → (ways delayed 0 1 ≡ 0) × (ways delayed 0 2 ≡ 1) × NoReconvergence delayed row st 2 × (byteOf delayed (2 ∷ []) (2 ∷ []) 2 ≡ 2)
+    × (byteOf delayed (3 ∷ []) (3 ∷ []) 2 ≡ 3) × (byteOf delayed (3 ∷ []) (2 ∷ []) 2 ≡ 2) × (byteOf delayed (2 ∷ []) (3 ∷ []) 2 ≡ 2)
+register row st =
+    let e = promised .exactness-examples in
+    (e .register-ways .0, e .register-ways .1, e .register-exact row st, e .both-marked, e .both-change, e .neither-alone .0, e .neither-alone .1)
