@@ -2,9 +2,9 @@
 use Prim.Native.Nat.{ℕ, suc, _/_, _%_, _≤_, _<_}
 use native.Mathlib.Omega.{arith}
 use mathlib.Core.Path.{_≡_, refl, sym, subst, _∙_}
-use mathlib.Core.List.{List, [], _∷_, map, Forall₂, Forall₂·nil, Forall₂·cons}
+use mathlib.Core.List.{List, [], _∷_, map, Forall₂}
 use mathlib.Core.Option.{none}
-use mathlib.Core.Bool.{Bool, true, false, cond}
+use mathlib.Core.Bool.{true, cond}
 use lib.Dec.{eqb, lit≤}
 use lib.ListN.{length, getD, take}
 use borrow.Author.Tests.{eqb-true, eq-eqb}
@@ -48,8 +48,8 @@ related : (R : ℕ → ℕ → Type 0) (k : ℕ) (f : ℕ → ℕ) (xs : List Ne
 related R k f xs r l h =
     let z = chosen-selected k f in
     pairs-places r (chosen k f 0 xs) 0 (l ∙ sym (selection-length z 0 xs)) (λ p m.
-        let g = place-found k xs (net 0 0 0 0) p (omega arith) in
-        subst (λ q. R (getD r q 0) (getD (chosen k f 0 xs) q 0)) (g .place) (rw (selection-place z xs (g .net) _ (g .below) (g .kind)) (h (g .net) (g .below) (g .kind))))
+    let g = place-found k xs (net 0 0 0 0) p (omega arith) in
+    subst (λ q. R (getD r q 0) (getD (chosen k f 0 xs) q 0)) (g .place) (rw (selection-place z xs (g .net) _ (g .below) (g .kind)) (h (g .net) (g .below) (g .kind))))
 
 -- THE BYTE OF A NET, by its byte in the row or state and by what its pins read
 abbrev nodeByte : Net → (own : ℕ) → (read : ℕ → ℕ) → ℕ

@@ -61,8 +61,10 @@ by-kind s j i x e =
       no-pin = λ n h. rw (ne-eqb i j n, lt-leb NOT k (omega arith), lt-leb AND k (omega arith), ne-eqb k MUX (λ o. omega arith)) at e;
       not = λ n h. omega (arith, rw (ne-eqb i j n, h) at e);
       two-pins = λ n h l.
-          omega (arith,
-          rw (ne-eqb i j n, le-leb NOT k (omega arith), le-leb k OUT (omega arith), le-leb AND k h, le-leb k MUX (omega arith), ne-eqb k MUX (λ o. omega arith)) at e);
+          omega (
+            arith,
+            rw (ne-eqb i j n, le-leb NOT k (omega arith), le-leb k OUT (omega arith), le-leb AND k h, le-leb k MUX (omega arith), ne-eqb k MUX (λ o. omega arith)) at e,
+          );
       mux = λ n h. omega (arith, rw (ne-eqb i j n, h) at e);
       out = λ n h. omega (arith, rw (ne-eqb i j n, h) at e);
     }

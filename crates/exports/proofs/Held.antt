@@ -96,8 +96,7 @@ gate-marks : (a b c : ℕ) → a ≤ 3 → b ≤ 3 → c ≤ 3
     × (orByte a b / 2 ≡ 1 → Changed (λ a b c. orByte a b) a b 0) × (Changed (λ a b c. xorByte a b) a b 0 → xorByte a b / 2 ≡ 1)
     × (muxByte a b c / 2 ≡ 1 → Changed muxByte a b c) × (Changed muxByte a b c → muxByte a b c / 2 ≡ 1)
 gate-marks a b c h k l =
-    let g = promised .marks-exact in
-    (
+    let g = promised .marks-exact in (
       g .not a b 0 h k (lit≤ tt) .0,
       g .and a b 0 h k (lit≤ tt) .1,
       g .or a b 0 h k (lit≤ tt) .0,

@@ -5,7 +5,7 @@ use mathlib.Core.Logic.{_↔_}
 use mathlib.Core.Path.{_≡_, refl, ap, sym, _∙_}
 use mathlib.Core.List.{List, [], _∷_}
 use mathlib.Core.Option.{none}
-use lib.ListN.{length, getD}
+use lib.ListN.{getD}
 use Rattle.gates.specs.Relations.{AgreeByte, same, low-high, high-low, Agree}
 use Rattle.image.specs.Image.{sizesOf}
 use Rattle.image.specs.Pins.{pinNet}

@@ -1,6 +1,5 @@
 -- The converse of agreement (`gates-agree`), for a gate that is marked exactly where it can be changed: each byte that agrees with its own is its byte for some pins that agree with its pins.
 use Prim.Native.Nat.{ℕ, _/_, _%_, _≤_}
-use native.Mathlib.Omega.{arith}
 use mathlib.Core.Path.{_≡_, refl}
 use Rattle.gates.specs.Kinds.{NOT, AND, OR, XOR, MUX, OUT}
 use Rattle.gates.specs.Rules.{gateByte}
@@ -40,16 +39,16 @@ onto {f} keeps exact a b c h k l y g =
     either (f a b c) y
     (λ e. record { pin-a = a; pin-b = b; pin-c = c; agree-a = same; agree-b = same; agree-c = same; gives = e })
     (λ n.
-        let d = exact a b c h k l .0 (agree-marked g n) in
-        record {
-          pin-a = d .other-a;
-          pin-b = d .other-b;
-          pin-c = d .other-c;
-          agree-a = d .agree-a;
-          agree-b = d .agree-b;
-          agree-c = d .agree-c;
-          gives = one-other g (keeps a _ b _ c _ (d .agree-a) (d .agree-b) (d .agree-c)) n (d .changed);
-        })
+    let d = exact a b c h k l .0 (agree-marked g n) in
+    record {
+      pin-a = d .other-a;
+      pin-b = d .other-b;
+      pin-c = d .other-c;
+      agree-a = d .agree-a;
+      agree-b = d .agree-b;
+      agree-c = d .agree-c;
+      gives = one-other g (keeps a _ b _ c _ (d .agree-a) (d .agree-b) (d .agree-c)) n (d .changed);
+    })
 
 -- EVERY GATE, and OUT
 pub not-onto : Onto (gateByte NOT)
