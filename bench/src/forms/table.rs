@@ -48,9 +48,8 @@ pub const fn code(kind: usize, a: u8, b: u8, c: u8) -> u8 {
         6 => byte(a ^ b, ta | tb),
         7 => {
             let chosen = if c & 1 == 0 { a } else { b };
-            let any = ((a | b) != 0) as u8;
             if c >= 2 {
-                byte(chosen, any)
+                byte(chosen, (a ^ b) | ta | tb)
             } else {
                 chosen
             }
