@@ -4,6 +4,7 @@ use crate::call::Call;
 use crate::calls::Calls;
 use crate::coding::{in_words, number_of, refusal};
 use crate::drawing;
+use crate::exactness::Reached;
 use crate::expecting::{expect, figure};
 use crate::failure::Failure;
 use crate::lent::{Lent, WrongByte};
@@ -107,6 +108,11 @@ impl<'a> Case<'a> {
         self.tally.alone += 1;
         self.tally.note(image, call, made.answer);
         Ok(made.answer)
+    }
+
+    /// Counts a net whose mark is as it has to be.
+    pub fn note_net(&mut self, net: &Reached) {
+        self.tally.exactness.note(net);
     }
 
     /// The failure of a property, after a call of the library.

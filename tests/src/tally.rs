@@ -5,6 +5,7 @@ use std::fmt;
 use crate::bits::Bits;
 use crate::call::{Call, Name, NAMES};
 use crate::coding::{number_of, place_of, CLEAR};
+use crate::exactness::Exactness;
 use crate::places::class;
 use crate::unknowns::Unknowns;
 
@@ -27,6 +28,8 @@ pub struct Tally {
     pub bits: Bits,
     /// Static calls.
     pub unknowns: Unknowns,
+    /// Nets whose marks were held against what changes them.
+    pub exactness: Exactness,
 }
 
 impl Tally {
@@ -76,7 +79,8 @@ impl fmt::Display for Tally {
              static power-up {static_power_up}, static run {static_run}"
         )?;
         writeln!(f, "steps and runs with a flow: {}", self.flows)?;
-        write!(f, "{}", self.unknowns)
+        writeln!(f, "{}", self.unknowns)?;
+        write!(f, "{}", self.exactness)
     }
 }
 

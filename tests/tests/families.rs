@@ -2,7 +2,7 @@
 
 use std::mem::take;
 use std::time::Instant;
-use tests::{run_family, Bits, Name, Tally, Unknowns, FAMILIES, LIBRARY};
+use tests::{run_family, Bits, Exactness, Name, Tally, Unknowns, FAMILIES, LIBRARY};
 
 /// Every refusal but 17 must be seen at least so often, and every one of each static
 /// call.
@@ -11,7 +11,7 @@ const LEAST_SEEN: u64 = 10;
 /// The calls in which a family must have inverted pins of all kinds, and images
 /// without any of all kinds, and how often.
 #[rustfmt::skip]
-const INVERTED: [(&str, &[Name], u64); 13] = [
+const INVERTED: [(&str, &[Name], u64); 14] = [
     ("exhaustive", &[
         Name::Check, Name::PowerUp, Name::Step, Name::Run, Name::Double,
         Name::StaticPowerUp, Name::StaticRun,
@@ -27,6 +27,7 @@ const INVERTED: [(&str, &[Name], u64); 13] = [
     ("pairing", &[Name::PowerUp, Name::Step, Name::Run, Name::Double], 1000),
     ("two_runs", &[Name::PowerUp, Name::Step, Name::Run, Name::Double], 1000),
     ("steps", &[Name::Step, Name::Run], 1000),
+    ("exact", &[Name::Step], 1000),
     ("static_gates", &[Name::StaticRun], 1),
     ("static_runs", &[Name::StaticPowerUp, Name::StaticRun], 1000),
     ("filling", &[Name::StaticPowerUp, Name::StaticRun, Name::Run], 1000),
@@ -76,6 +77,7 @@ fn enough(tally: &Tally) {
     assert!(tally.flows >= 10_000);
     assert!(clear >= 10_000);
     enough_unknowns(&tally.unknowns);
+    enough_exact(&tally.exactness);
 }
 
 /// Asks that the static calls went everywhere: each of their refusals, 18 for the
@@ -99,6 +101,14 @@ fn enough_unknowns(unknowns: &Unknowns) {
         assert!(unknowns.powered[code] >= 1000, "powered up as {code}");
     }
     assert!(unknowns.verdicts.iter().all(|seen| *seen >= 10_000));
+}
+
+/// Asks that gates of all kinds and OUTs were tried that a marked INPUT or REG reaches:
+/// along one way, marked and unmarked, and along two, marked though no other values
+/// change them.
+fn enough_exact(exactness: &Exactness) {
+    let least = exactness.least();
+    assert!(least.iter().all(|seen| *seen >= 500), "{least:?}");
 }
 
 /// Asks that the cases of a family had inverted pins where it must have them.

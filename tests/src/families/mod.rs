@@ -3,6 +3,7 @@
 
 mod damaged;
 mod doubling;
+mod exact;
 mod exhaustive;
 mod extreme;
 mod filling;
@@ -30,9 +31,9 @@ pub struct Family {
     pub run: fn(&mut Case) -> Outcome,
 }
 
-/// All families. The last five try properties of the library alone.
+/// All families. The last six try properties of the library alone.
 #[rustfmt::skip]
-pub static FAMILIES: [Family; 18] = [
+pub static FAMILIES: [Family; 19] = [
     Family { name: "exhaustive", cases: exhaustive::CASES, run: exhaustive::run },
     Family { name: "four_nets", cases: four_nets::CASES, run: four_nets::run },
     Family { name: "operands", cases: operands::CASES, run: operands::run },
@@ -49,6 +50,7 @@ pub static FAMILIES: [Family; 18] = [
     Family { name: "pairing", cases: 20_000, run: pairing::run },
     Family { name: "two_runs", cases: 20_000, run: two_runs::run },
     Family { name: "steps", cases: 40_000, run: steps::run },
+    Family { name: "exact", cases: 50_000, run: exact::run },
     Family { name: "filling", cases: 20_000, run: filling::run },
     Family { name: "known", cases: 20_000, run: known::run },
 ];

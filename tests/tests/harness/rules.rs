@@ -26,7 +26,7 @@ const RIGHT: Rules = Rules {
 
 /// All rules, each with one that is wrong.
 #[rustfmt::skip]
-pub const RULES: [Rules; 9] = [
+pub const RULES: [Rules; 10] = [
     Rules { gate: any_pin_marks, ..RIGHT },
     Rules { gate: chosen_pin_marks, ..RIGHT },
     Rules { gate: own_xor_is_clear, ..RIGHT },
@@ -36,6 +36,7 @@ pub const RULES: [Rules; 9] = [
     Rules { inverted: |kind, _, byte| plain_if(kind == REG, byte), ..RIGHT },
     Rules { inverted: |kind, _, byte| plain_if(kind == OUT, byte), ..RIGHT },
     Rules { inverted: |kind, index, byte| plain_if(kind == MUX && index == 2, byte), ..RIGHT },
+    Rules { gate: composed_mux, ..RIGHT },
 ];
 
 /// Marks a gate whenever a pin is marked.
@@ -64,6 +65,10 @@ pub const PLAIN_OUT: Calls = by_rule::<7>();
 
 /// Has a MUX choose by the byte of net c as it is.
 pub const PLAIN_SELECT: Calls = by_rule::<8>();
+
+/// Composes a MUX of a NOT, two ANDs and an OR, so that a marked c marks it between two
+/// trusted ones too.
+pub const COMPOSED_MUX: Calls = by_rule::<9>();
 
 /// What an inverted pin reads that is not inverted in some cases.
 fn plain_if(is_plain: bool, byte: u8) -> u8 {
@@ -94,6 +99,13 @@ fn any_pin_marks(kind: u8, operands: [u16; 3], bytes: [u8; 3]) -> u8 {
 fn chosen_pin_marks(kind: u8, operands: [u16; 3], [a, b, c]: [u8; 3]) -> u8 {
     match kind {
         MUX => mux_byte(a, b, c % 2),
+        _ => right(kind, operands, [a, b, c]),
+    }
+}
+
+fn composed_mux(kind: u8, operands: [u16; 3], [a, b, c]: [u8; 3]) -> u8 {
+    match kind {
+        MUX => or_byte(and_byte(a, not_byte(c)), and_byte(b, c)),
         _ => right(kind, operands, [a, b, c]),
     }
 }
