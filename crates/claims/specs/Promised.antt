@@ -2,7 +2,7 @@
 -- `use` line names. That the code does what these statements speak of (`checkRefusal`, `powerUpOf`, `stepOf`, `runOf`, `staticPowerUpOf`, `staticRunOf`, `doubledSizeOf`, `doubleOf`) is the contract of each call, in
 -- src/ of its crate. The record is proved as `promised`, and used by the crate `exports`, field by field.
 use Rattle.gates.specs.Meaning.{GateValues, MarksExact, GatesMonotone, RelationsMean}
-use Rattle.unknowns.specs.Exactness.{StaticExact}
+use Rattle.unknowns.specs.StaticExactness.{StaticExact}
 use Rattle.claims.specs.Terms.{Terms}
 use Rattle.claims.specs.Examples.{Examples}
 use Rattle.claims.specs.Reading.{ImageRead}

@@ -8,7 +8,7 @@ use lib.Dec.{eqb}
 use Rattle.gates.specs.Rules.{value, mark, byte, gateByte}
 use Rattle.unknowns.specs.Filling.{known, fillings, filled, allValue, anyMark, codeOf, staticByte}
 use Rattle.unknowns.specs.Covering.{Covers}
-use Rattle.unknowns.specs.Exactness.{SaysNoMore, StaticExact}
+use Rattle.unknowns.specs.StaticExactness.{SaysNoMore, StaticExact}
 use Rattle.unknowns.proofs.Covered.{value-in, mem-filled, covers-gate, fills-covers}
 
 -- what holds of every byte of a list
