@@ -50,7 +50,7 @@ pub static FAMILIES: [Family; 19] = [
     Family { name: "pairing", cases: 20_000, run: pairing::run },
     Family { name: "two_runs", cases: 20_000, run: two_runs::run },
     Family { name: "steps", cases: 40_000, run: steps::run },
-    Family { name: "exact", cases: 50_000, run: exact::run },
+    Family { name: "exact", cases: 150_000, run: exact::run },
     Family { name: "filling", cases: 20_000, run: filling::run },
     Family { name: "known", cases: 20_000, run: known::run },
 ];
