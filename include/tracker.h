@@ -4,9 +4,12 @@
  * Programs that read them by themselves have to be changed, and those that read them by the functions at the end of this file to be compiled anew.
  * A register with start 2 wakes with byte 2, an untrusted 0, where it woke with 0, and its mark register in the doubled netlist starts at 1.
  * The top bit of a pin, with which an image was refused with 5, inverts it.
+ * A MUX between two trusted ones that an untrusted pin selects is unmarked, where it was marked, and the second net of a MUX's group in the doubled
+ * netlist is a XOR, where it was an OR.
  *
  * An image holds a netlist: four u16 sizes, low byte first, namely N nets, I inputs, R registers and O outputs; then N kind bytes; then N entries of
- * three u16 operands a, b and c. Its length is 8 + 7 x N. A byte of a pin, a register or a net is value + 2 x mark; mark 1 is untrusted.
+ * three u16 operands a, b and c. Its length is 8 + 7 x N. A byte of a pin, a register or a net is value + 2 x mark; mark 1 is untrusted. A gate is marked
+ * exactly if other values of its marked pins would change its value.
  *
  *   kind                operands; an operand that is not listed is 0                                  nets in the doubled netlist
  *   0 CONST             a is 0 or 1                                                                   2

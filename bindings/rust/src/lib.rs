@@ -10,7 +10,8 @@
 //!   and O are OUTs. Nets are numbered from 0, and inputs, registers and
 //!   outputs are each counted in net order.
 //! - A *byte* of an input, a register, a net or an output is value + 2 × mark,
-//!   so 0 to 3. Mark 0 is trusted, mark 1 untrusted.
+//!   so 0 to 3. Mark 0 is trusted, mark 1 untrusted. A gate is marked exactly if
+//!   other values of its marked pins would change its value.
 //! - The *state* has a byte for each register, and a *row* a byte for each
 //!   input.
 //! - A *pin* is an operand that names a net, whose byte the gate, the OUT or, at
