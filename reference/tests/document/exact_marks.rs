@@ -11,7 +11,7 @@ use crate::codes::all_fillings;
 use crate::images::*;
 use crate::pins::{all_inversions, change_pins, inverted, pin_count, pins};
 use crate::random::{random_nets, Numbers};
-use crate::samples::{all_triples, sample, values};
+use crate::samples::{all_triples, sample, values, GATES};
 
 /// The number of ways along which net `from` reaches net `to`. A net reaches
 /// itself along one way, which has no pin. Otherwise the last pin of a way is one
@@ -261,15 +261,7 @@ fn every_mark_of_a_tree_is_exact() {
 // tables of the gates is exact.
 #[test]
 fn every_entry_of_the_tables_is_exact() {
-    let gates = [
-        (NOT, 0, 0, 0),
-        (AND, 0, 1, 0),
-        (OR, 0, 1, 0),
-        (XOR, 0, 1, 0),
-        (MUX, 0, 1, 2),
-        (OUT, 2, 0, 0),
-    ];
-    for gate in gates.into_iter().flat_map(all_inversions) {
+    for gate in GATES.into_iter().flat_map(all_inversions) {
         for row in all_triples() {
             let mut nets = vec![(INPUT, 0, 0, 0); 3];
             nets.push(gate);

@@ -118,6 +118,16 @@ pub fn samples(numbers: &mut Numbers) -> Vec<Sample> {
     all
 }
 
+/// Each gate, and OUT, on nets 0 to 2.
+pub const GATES: [Entry; 6] = [
+    (NOT, 0, 0, 0),
+    (AND, 0, 1, 0),
+    (OR, 0, 1, 0),
+    (XOR, 0, 1, 0),
+    (MUX, 0, 1, 2),
+    (OUT, 2, 0, 0),
+];
+
 /// For each gate and for OUT, with each choice of its pins inverted: three nets
 /// of this kind, the gate on them as net 3, and a protected OUT of the gate. The
 /// three nets are INPUTs, or they are REGs with start 2 that hold their bytes.
@@ -126,16 +136,8 @@ pub fn gates_on(kind: u8) -> Vec<Sample> {
         REG => (REG, net, 2, 0),
         _ => (kind, 0, 0, 0),
     };
-    let gates = [
-        (NOT, 0, 0, 0),
-        (AND, 0, 1, 0),
-        (OR, 0, 1, 0),
-        (XOR, 0, 1, 0),
-        (MUX, 0, 1, 2),
-        (OUT, 2, 0, 0),
-    ];
     let nets = |gate: Entry| [source(0), source(1), source(2), gate, (OUT, 3, 1, 0)];
-    let all = gates.into_iter().flat_map(all_inversions);
+    let all = GATES.into_iter().flat_map(all_inversions);
     all.map(|gate| sample(&nets(gate))).collect()
 }
 
