@@ -1,4 +1,4 @@
--- Examples of ways and of exact marks, by computation.
+-- Examples of ways and of exact marks, by computation, and by what exactness says where it applies.
 use Prim.Native.Nat.{ℕ, zero, suc, _/_, _%_, _≤_}
 use native.Mathlib.Omega.{arith}
 use mathlib.Core.Path.{_≡_, refl}
@@ -18,7 +18,7 @@ use Rattle.claims.proofs.Examples.{gating, checking, running}
 use Rattle.claims.proofs.Circuits.{isSource}
 use Rattle.claims.proofs.Exactness.{exactness}
 
-abbrev counting : Unit {0}
+unfoldable pub counting : Unit {0}
 unfolding pinsOf waysBelow ways encode
 counting = tt
 
@@ -98,10 +98,22 @@ mux-unchanged h =
     other 0 1 refl
     (exactness select (1 ∷ 2 ∷ []) [] refl (two-inputs 1 2 (lit≤ tt) (lit≤ tt)) (no-state select refl) 6 (lit< tt) (of-sources mux-sources) .1 h)
 
+both-change : Change delayed (2 ∷ []) (2 ∷ []) 2
+unfolding gating checking running counting delayed
+both-change =
+    record {
+      other-row = 3 ∷ [];
+      other-state = 3 ∷ [];
+      rows = Forall₂·cons low-high Forall₂·nil;
+      states = Forall₂·cons low-high Forall₂·nil;
+      changed = other 1 0 refl;
+    }
+
 pub exactness-examples : ExactnessExamples
 unfolding gating checking running counting ownXor select selectTree delayed
 exactness-examples =
     record {
+      accepted = (refl, refl, refl, refl);
       xor-ways = refl;
       xor-marked = refl;
       xor-unchanged = λ h. xor-unchanged _ _ (h .rows) (h .states) (h .changed);
@@ -120,6 +132,6 @@ exactness-examples =
       register-ways = (refl, refl);
       register-exact = λ row st. of-sources (λ j t m. register-sources j t);
       both-marked = refl;
-      both-change = refl;
+      both-change = both-change;
       neither-alone = (refl, refl);
     }

@@ -1,10 +1,12 @@
--- Examples of ways and of exact marks (document 02, L5), computed.
+-- Examples of ways and of exact marks (document 02, L5).
 use Prim.Native.Nat.{ℕ, _+_}
 use mathlib.Core.Path.{_≡_}
 use mathlib.Core.List.{List, [], _∷_}
+use mathlib.Core.Option.{none}
 use Rattle.gates.specs.Kinds.{CONST, INPUT, REG, NOT, AND, OR, XOR, MUX}
 use Rattle.image.specs.declared.image.Net.{Net}
 use Rattle.image.specs.Image.{net, encode}
+use Rattle.checking.specs.Check.{checkRefusal}
 use Rattle.claims.specs.Ways.{ways}
 use Rattle.claims.specs.Exactness.{byteOf, NoReconvergence, Change}
 
@@ -25,7 +27,7 @@ select =
     image 7 2 0
     (net INPUT 0 0 0 ∷ net INPUT 0 0 0 ∷ net NOT 1 0 0 ∷ net AND 0 2 0 ∷ net AND 0 1 0 ∷ net OR 3 4 0 ∷ net MUX 0 0 1 ∷ [])
 
--- two selects among constants, the first by net 0 and the second by the inverse of net 1: net 4 is net 0, and net 5 is net 4 where net 1 is 1, else a 1
+-- two selects: net 4 by net 0 between a 0 and a 1, and net 5 by the inverse of net 1 between net 4 and a 1. So net 4 is net 0, and net 5 is net 4 where net 1 is 1, else a 1
 unfoldable pub selectTree : List ℕ
 selectTree =
     image 6 2 0 (net INPUT 0 0 0 ∷ net INPUT 0 0 0 ∷ net CONST 0 0 0 ∷ net CONST 1 0 0 ∷ net MUX 2 3 0 ∷ net MUX 4 3 (top 1) ∷ [])
@@ -36,6 +38,8 @@ delayed = image 3 1 1 (net INPUT 0 0 0 ∷ net REG 0 0 0 ∷ net AND 0 1 0 ∷ [
 
 -- proved as `exactness-examples`
 pub record ExactnessExamples : Type 0 where
+  -- checking accepts these images
+  pub accepted : (checkRefusal ownXor ≡ none) × (checkRefusal select ≡ none) × (checkRefusal selectTree ≡ none) × (checkRefusal delayed ≡ none)
   -- the condition is wanted: a marked input reaches an XOR along two ways, one for each pin, and it is marked, though nothing changes it
   pub xor-ways : ways ownXor 0 1 ≡ 2
   pub xor-marked : byteOf ownXor (2 ∷ []) [] 1 ≡ 2
@@ -58,7 +62,7 @@ pub record ExactnessExamples : Type 0 where
   -- a register's own pin counts as no way, so that the input reaches the AND along one, and not along a second through the register
   pub register-ways : (ways delayed 0 1 ≡ 0) × (ways delayed 0 2 ≡ 1)
   pub register-exact : (row st : List ℕ) → NoReconvergence delayed row st 2
-  -- values are changed together: a marked 0 in the input and in the register change their AND, neither of them alone
+  -- values are changed together: a marked 0 in the input and a marked 0 in the register change their AND, and neither of them alone does
   pub both-marked : byteOf delayed (2 ∷ []) (2 ∷ []) 2 ≡ 2
-  pub both-change : byteOf delayed (3 ∷ []) (3 ∷ []) 2 ≡ 3
+  pub both-change : Change delayed (2 ∷ []) (2 ∷ []) 2
   pub neither-alone : (byteOf delayed (3 ∷ []) (2 ∷ []) 2 ≡ 2) × (byteOf delayed (2 ∷ []) (3 ∷ []) 2 ≡ 2)

@@ -114,7 +114,7 @@ pub record Promised : Type 0 where
   -- EXACT MARKS (document 02, L5). In every cycle, a net that no marked input or register reaches along two ways is marked exactly if other values of the marked inputs and registers,
   -- chosen together, would change its value.
   pub exactness : Exactness
-  -- The ways between two nets are as many as one counts on a drawing: one for each pin, used or not, and none through the pin of a register.
+  -- Ways are counted as on a drawing: to a net there are as many as lead to the nets that its pins name, added up, used or not; to a register there is none but from itself.
   pub ways-counted : WaysCountedAll
   -- Where a marked input reaches a XOR along two ways, it is marked though nothing changes it; a select between two ones, as a MUX, is not.
   pub exactness-examples : ExactnessExamples

@@ -12,7 +12,7 @@ use Rattle.net_checking.specs.Operands.{pinA, pinB, pinC}
 use Rattle.checking.specs.Check.{checkRefusal}
 use Rattle.claims.specs.Reading.{netOf}
 
--- the pins of a gate or OUT, by its kind alone; no other kind has any. Two pins on one net are two
+-- the pins that count as ways to a net: those of a gate or OUT, by its kind alone, two on one net as two; and no others, so that a register's own pin is none of them
 unfoldable pub pinsOf : Net → List ℕ
 pinsOf x = cond (pinA (x .kind)) (x .a ∷ []) [] ++ cond (pinB (x .kind)) (x .b ∷ []) [] ++ cond (pinC (x .kind)) (x .c ∷ []) []
 

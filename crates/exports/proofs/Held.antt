@@ -1,5 +1,6 @@
 -- Each promise that no proof of `codes` uses, used by its parts: so one that is left out of the record, or loses one of these parts, is missed here.
 use Prim.Native.Nat.{ℕ, _+_, _*_, _/_, _%_, _≤_, _<_}
+use mathlib.Core.Logic.{_↔_}
 use mathlib.Core.Path.{_≡_}
 use mathlib.Core.List.{List, [], _∷_}
 use mathlib.Core.Option.{none, some}
@@ -8,7 +9,7 @@ use lib.Dec.{lit≤}
 use lib.ListN.{length, getD, replicate}
 use Rattle.gates.specs.Kinds.{CONST, INPUT, REG, NOT, AND, OR, XOR, MUX, OUT}
 use Rattle.gates.specs.Rules.{mark, notByte, andByte, orByte, xorByte, muxByte, gateByte}
-use Rattle.gates.specs.Relations.{AgreeByte, BelowByte, equal, zero-marked}
+use Rattle.gates.specs.Relations.{AgreeByte, BelowByte}
 use Rattle.gates.specs.Meaning.{Changed}
 use Rattle.image.specs.declared.image.Net.{Net}
 use Rattle.image.specs.Image.{sizesOf, net, netsOf, count}
@@ -92,32 +93,27 @@ gate-values : (a b : ℕ) → a ≤ 3 → b ≤ 3
 gate-values a b h k = let g = promised .gate-values in (g .not a h, g .and a b h k, g .or a b h k, g .xor a b h k)
 
 gate-marks : (a b c : ℕ) → a ≤ 3 → b ≤ 3 → c ≤ 3
-    → (notByte a / 2 ≡ 1 → Changed (λ a b c. notByte a) a b 0) × (Changed (λ a b c. andByte a b) a b 0 → andByte a b / 2 ≡ 1)
-    × (orByte a b / 2 ≡ 1 → Changed (λ a b c. orByte a b) a b 0) × (Changed (λ a b c. xorByte a b) a b 0 → xorByte a b / 2 ≡ 1)
-    × (muxByte a b c / 2 ≡ 1 → Changed muxByte a b c) × (Changed muxByte a b c → muxByte a b c / 2 ≡ 1)
-gate-marks a b c h k l =
-    let g = promised .marks-exact in (
-      g .not a b 0 h k (lit≤ tt) .0,
-      g .and a b 0 h k (lit≤ tt) .1,
-      g .or a b 0 h k (lit≤ tt) .0,
-      g .xor a b 0 h k (lit≤ tt) .1,
-      g .mux a b c h k l .0,
-      g .mux a b c h k l .1,
-    )
+    → ((notByte a / 2 ≡ 1) ↔ Changed (λ a b c. notByte a) a b c) × ((andByte a b / 2 ≡ 1) ↔ Changed (λ a b c. andByte a b) a b c)
+    × ((orByte a b / 2 ≡ 1) ↔ Changed (λ a b c. orByte a b) a b c) × ((xorByte a b / 2 ≡ 1) ↔ Changed (λ a b c. xorByte a b) a b c)
+    × ((muxByte a b c / 2 ≡ 1) ↔ Changed muxByte a b c)
+gate-marks a b c h k l = let g = promised .marks-exact in (g .not a b c h k l, g .and a b c h k l, g .or a b c h k l, g .xor a b c h k l, g .mux a b c h k l)
 
 changed : {f : (a b c : ℕ) → ℕ} {a b c : ℕ} (d : Changed f a b c)
     → (f (d .other-a) (d .other-b) (d .other-c) % 2 ≡ f a b c % 2 → ⊥) × AgreeByte a (d .other-a) × AgreeByte b (d .other-b) × AgreeByte c (d .other-c)
 changed d = (d .changed, d .agree-a, d .agree-b, d .agree-c)
 
+to-change : {f : (a b c : ℕ) → ℕ} {a b c a′ b′ c′ : ℕ} → AgreeByte a a′ → AgreeByte b b′ → AgreeByte c c′ → (f a′ b′ c′ % 2 ≡ f a b c % 2 → ⊥) → Changed f a b c
+to-change p q r n = record { other-a = _; other-b = _; other-c = _; agree-a = p; agree-b = q; agree-c = r; changed = n }
+
 mux-values : (a b c : ℕ) → a ≤ 3 → b ≤ 3 → c ≤ 3 → (c % 2 ≡ 0 → muxByte a b c % 2 ≡ a % 2) × (c % 2 ≡ 1 → muxByte a b c % 2 ≡ b % 2)
 mux-values a b c h k l = let g = promised .gate-values in (g .mux-a a b c h k l, g .mux-b a b c h k l)
 
-more-marks : BelowByte (gateByte 4 0 1 0) (gateByte 4 2 1 0)
-more-marks = promised .gates-monotone 4 0 2 1 1 0 0 zero-marked equal equal
+more-marks : (kind a a′ b b′ c c′ : ℕ) → BelowByte a a′ → BelowByte b b′ → BelowByte c c′ → BelowByte (gateByte kind a b c) (gateByte kind a′ b′ c′)
+more-marks = promised .gates-monotone
 
 relations : (x y : ℕ) → x ≤ 3 → y ≤ 3
-    → (AgreeByte x y → (x / 2 ≡ y / 2) × (x / 2 ≡ 0 → x % 2 ≡ y % 2)) × (BelowByte x y → (x % 2 ≡ y % 2) × (x / 2 ≤ y / 2))
-relations x y h k = let r = promised .relations-mean in (r .agree x y h k .0, r .below x y h k .0)
+    → (AgreeByte x y ↔ ((x / 2 ≡ y / 2) × (x / 2 ≡ 0 → x % 2 ≡ y % 2))) × (BelowByte x y ↔ ((x % 2 ≡ y % 2) × (x / 2 ≤ y / 2)))
+relations x y h k = let r = promised .relations-mean in (r .agree x y h k, r .below x y h k)
 
 examples : (andByte 0 2 ≡ 0) × (andByte 1 2 ≡ 2) × (andByte 2 2 ≡ 2) × (orByte 1 3 ≡ 1) × (orByte 0 3 ≡ 3) × (xorByte 1 3 ≡ 2)
     × (muxByte 0 3 0 ≡ 0) × (muxByte 0 3 1 ≡ 3) × (muxByte 0 0 2 ≡ 0) × (muxByte 1 1 2 ≡ 1) × (muxByte 0 1 2 ≡ 2)

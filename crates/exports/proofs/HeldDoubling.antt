@@ -79,30 +79,49 @@ two-pins : (xs : List Net) (j : ℕ) → j < 32768
     → (valuePin xs j ≡ valueNet xs j) × (valuePin xs (32768 + j) ≡ 32768 + valueNet xs j) × (markPin xs j ≡ markNet xs j) × (markPin xs (32768 + j) ≡ markNet xs j)
 two-pins xs j h = let p = promised .pins-mean in (p .value-pin xs j h, p .value-inverted xs j h, p .mark-pin xs j h, p .mark-inverted xs j h)
 
--- the group of any net: two kinds as they stand, and every other by how many nets it has
+-- the group of any net, by the number of its kind
 module _ (xs : List Net) (i : ℕ) (x : Net) where
-  xor-group : x .kind ≡ 6 → groupAt xs i x ≡ net 6 (valuePin xs (x .a)) (valuePin xs (x .b)) 0 ∷ net 5 (markPin xs (x .a)) (markPin xs (x .b)) 0 ∷ []
-  xor-group = promised .groups .each xs i x .xor
+  abbrev v : ℕ → ℕ
+  v k = valueNet xs i + k
+
+  abbrev va : ℕ
+  va = valuePin xs (x .a)
+
+  abbrev ta : ℕ
+  ta = markPin xs (x .a)
+
+  abbrev vb : ℕ
+  vb = valuePin xs (x .b)
+
+  abbrev tb : ℕ
+  tb = markPin xs (x .b)
+
+  abbrev vc : ℕ
+  vc = valuePin xs (x .c)
+
+  abbrev tc : ℕ
+  tc = markPin xs (x .c)
+
+  short-groups :
+      (x .kind ≡ 0 → groupAt xs i x ≡ net 0 (x .a) 0 0 ∷ net 0 0 0 0 ∷ []) × (x .kind ≡ 1 → groupAt xs i x ≡ net 1 0 0 0 ∷ net 1 0 0 0 ∷ [])
+      × (x .kind ≡ 3 → groupAt xs i x ≡ net 3 va 0 0 ∷ net 5 ta ta 0 ∷ []) × (x .kind ≡ 6 → groupAt xs i x ≡ net 6 va vb 0 ∷ net 5 ta tb 0 ∷ [])
+      × (x .kind ≡ 8 → groupAt xs i x ≡ net 8 va 0 0 ∷ net 8 ta 0 0 ∷ [])
+  short-groups = let g = promised .groups .each xs i x in (g .const, g .input, g .not, g .xor, g .out)
 
   reg-group : x .kind ≡ 2
-      → ((x .b ≡ 2 → ⊥) → groupAt xs i x ≡ net 2 (valuePin xs (x .a)) (x .b) 0 ∷ net 2 (markPin xs (x .a)) 0 0 ∷ [])
-      × (x .b ≡ 2 → groupAt xs i x ≡ net 2 (valuePin xs (x .a)) 2 0 ∷ net 2 (markPin xs (x .a)) 1 0 ∷ [])
+      → ((x .b ≡ 2 → ⊥) → groupAt xs i x ≡ net 2 va (x .b) 0 ∷ net 2 ta 0 0 ∷ []) × (x .b ≡ 2 → groupAt xs i x ≡ net 2 va 2 0 ∷ net 2 ta 1 0 ∷ [])
   reg-group k = let g = promised .groups .each xs i x in (g .reg k, g .unknown-reg k)
 
-  group-sizes :
-      (x .kind ≡ 0 → length (groupAt xs i x) ≡ 2) × (x .kind ≡ 1 → length (groupAt xs i x) ≡ 2) × (x .kind ≡ 3 → length (groupAt xs i x) ≡ 2)
-      × (x .kind ≡ 4 → length (groupAt xs i x) ≡ 6) × (x .kind ≡ 5 → length (groupAt xs i x) ≡ 8) × (x .kind ≡ 7 → length (groupAt xs i x) ≡ 7)
-      × (x .kind ≡ 8 → length (groupAt xs i x) ≡ 2)
-  group-sizes =
-      let g = promised .groups .each xs i x in (
-        λ k. ap length (g .const k),
-        λ k. ap length (g .input k),
-        λ k. ap length (g .not k),
-        λ k. ap length (g .and k),
-        λ k. ap length (g .or k),
-        λ k. ap length (g .mux k),
-        λ k. ap length (g .out k),
-      )
+  and-group : x .kind ≡ 4 → groupAt xs i x ≡ net 4 va vb 0 ∷ net 4 ta vb 0 ∷ net 4 tb va 0 ∷ net 4 ta tb 0 ∷ net 5 (v 1) (v 2) 0 ∷ net 5 (v 4) (v 3) 0 ∷ []
+  and-group = promised .groups .each xs i x .and
+
+  or-group : x .kind ≡ 5 → groupAt xs i x
+      ≡ net 5 va vb 0 ∷ net 3 va 0 0 ∷ net 3 vb 0 0 ∷ net 4 ta (v 2) 0 ∷ net 4 tb (v 1) 0 ∷ net 4 ta tb 0 ∷ net 5 (v 3) (v 4) 0 ∷ net 5 (v 6) (v 5) 0 ∷ []
+  or-group = promised .groups .each xs i x .or
+
+  mux-group : x .kind ≡ 7 → groupAt xs i x
+      ≡ net 7 va vb vc ∷ net 6 va vb 0 ∷ net 5 ta tb 0 ∷ net 5 (v 1) (v 2) 0 ∷ net 4 tc (v 3) 0 ∷ net 7 ta tb vc ∷ net 5 (v 4) (v 5) 0 ∷ []
+  mux-group = promised .groups .each xs i x .mux
 
 -- IN TWO: every byte can be split so, also one that is marked
 in-two : (xs : List ℕ) → InTwo xs (split xs)

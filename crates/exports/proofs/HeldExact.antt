@@ -7,7 +7,7 @@ use mathlib.Core.List.{List, [], _∷_}
 use mathlib.Core.Option.{none}
 use lib.ListN.{getD}
 use Rattle.gates.specs.Relations.{AgreeByte, same, low-high, high-low, Agree}
-use Rattle.image.specs.Image.{sizesOf}
+use Rattle.image.specs.Image.{sizesOf, net, netsOf}
 use Rattle.image.specs.Pins.{pinNet}
 use Rattle.image.proofs.Pairs.{pairs-getD, pairs-length}
 use Rattle.checking.specs.Check.{checkRefusal}
@@ -17,6 +17,8 @@ use Rattle.claims.specs.NetBytes.{netOf}
 use Rattle.claims.specs.Ways.{ways}
 use Rattle.claims.specs.Exactness.{byteOf, NoReconvergence, Change}
 use Rattle.claims.specs.ExactnessExamples.{ownXor, select, selectTree, delayed}
+use Rattle.claims.proofs.Examples.{checking}
+use Rattle.claims.proofs.ExactnessExamples.{counting}
 use Rattle.claims.proofs.Promised.{promised}
 
 -- WAYS to a net from another, by the numbers of the kinds
@@ -95,7 +97,17 @@ module _ (s st row nets : List ℕ) (a : stepRefusal s st row nets ≡ none) whe
           changed = λ e. o .changed (rw (step-byte _ _ (agreeing (o .rows) (o .states)) i, step-byte row st a i) e);
         }))
 
--- EXAMPLES
+-- EXAMPLES, with the nets of their images by the numbers of the kinds
+images : (netsOf ownXor ≡ net 1 0 0 0 ∷ net 6 0 0 0 ∷ [])
+    × (netsOf select ≡ net 1 0 0 0 ∷ net 1 0 0 0 ∷ net 3 1 0 0 ∷ net 4 0 2 0 ∷ net 4 0 1 0 ∷ net 5 3 4 0 ∷ net 7 0 0 1 ∷ [])
+    × (netsOf selectTree ≡ net 1 0 0 0 ∷ net 1 0 0 0 ∷ net 0 0 0 0 ∷ net 0 1 0 0 ∷ net 7 2 3 0 ∷ net 7 4 3 32769 ∷ [])
+    × (netsOf delayed ≡ net 1 0 0 0 ∷ net 2 0 0 0 ∷ net 4 0 1 0 ∷ [])
+unfolding checking counting ownXor select selectTree delayed
+images = (refl, refl, refl, refl)
+
+accepted : (checkRefusal ownXor ≡ none) × (checkRefusal select ≡ none) × (checkRefusal selectTree ≡ none) × (checkRefusal delayed ≡ none)
+accepted = promised .exactness-examples .accepted
+
 two-ways : (ways ownXor 0 1 ≡ 2) × (byteOf ownXor (2 ∷ []) [] 1 ≡ 2) × (Change ownXor (2 ∷ []) [] 1 → ⊥)
     × (ways select 1 5 ≡ 2) × (byteOf select (1 ∷ 2 ∷ []) [] 5 ≡ 3) × (Change select (1 ∷ 2 ∷ []) [] 5 → ⊥)
 two-ways = let e = promised .exactness-examples in (e .xor-ways, e .xor-marked, e .xor-unchanged, e .gates-ways, e .gates-marked, e .gates-unchanged)
@@ -108,7 +120,7 @@ tree : (row : List ℕ) → NoReconvergence selectTree row [] 5 × (byteOf selec
 tree row = let e = promised .exactness-examples in (e .tree-exact row, e .tree-marked, e .tree-changes, e .tree-unmarked, e .tree-unchanged)
 
 register : (row st : List ℕ) → (ways delayed 0 1 ≡ 0) × (ways delayed 0 2 ≡ 1) × NoReconvergence delayed row st 2 × (byteOf delayed (2 ∷ []) (2 ∷ []) 2 ≡ 2)
-    × (byteOf delayed (3 ∷ []) (3 ∷ []) 2 ≡ 3) × (byteOf delayed (3 ∷ []) (2 ∷ []) 2 ≡ 2) × (byteOf delayed (2 ∷ []) (3 ∷ []) 2 ≡ 2)
+    × Change delayed (2 ∷ []) (2 ∷ []) 2 × (byteOf delayed (3 ∷ []) (2 ∷ []) 2 ≡ 2) × (byteOf delayed (2 ∷ []) (3 ∷ []) 2 ≡ 2)
 register row st =
     let e = promised .exactness-examples in
     (e .register-ways .0, e .register-ways .1, e .register-exact row st, e .both-marked, e .both-change, e .neither-alone .0, e .neither-alone .1)
