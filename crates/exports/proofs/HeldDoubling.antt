@@ -1,6 +1,6 @@
 -- The promises about the doubled netlist, used by their parts, as in Held.
 use Prim.Native.Nat.{ℕ, _+_, _*_, _/_, _%_, _≤_, _<_}
-use mathlib.Core.Path.{_≡_, ap}
+use mathlib.Core.Path.{_≡_}
 use mathlib.Core.List.{List, [], _∷_, Forall₂}
 use mathlib.Core.Option.{none}
 use lib.ListN.{length, getD}
