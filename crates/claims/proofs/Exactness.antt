@@ -30,7 +30,8 @@ use Rattle.claims.specs.Ways.{pinsOf, ways}
 use Rattle.claims.specs.Exactness.{byteOf, NoReconvergence, Change, Exactness}
 use Rattle.claims.proofs.Accepted.{together}
 use Rattle.claims.proofs.NetBytes.{net-bytes}
-use Rattle.claims.proofs.Circuits.{by-test, isSource, pinReads, ofPins, Bytes, Node, fixed, source, gate, Circuit, reached}
+use Rattle.claims.proofs.PinsOnto.{by-test, pinReads, ofPins}
+use Rattle.claims.proofs.Circuits.{isSource, Bytes, Node, fixed, source, gate, Circuit, reached}
 use Rattle.claims.proofs.Ways.{passes, pins-below, ways-step}
 
 -- ROWS AND STATES by the bytes f of the sources: a byte f i for each net i of kind k

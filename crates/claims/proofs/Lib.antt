@@ -27,6 +27,7 @@ pub mod ClearRun
 pub mod Waking
 pub mod UnknownStart
 pub mod DoubledRun
+pub mod PinsOnto
 pub mod Circuits
 pub mod Ways
 pub mod Exactness

@@ -40,7 +40,7 @@ delayed = image 3 1 1 (net INPUT 0 0 0 ∷ net REG 0 0 0 ∷ net AND 0 1 0 ∷ [
 pub record ExactnessExamples : Type 0 where
   -- checking accepts these images
   pub accepted : (checkRefusal ownXor ≡ none) × (checkRefusal select ≡ none) × (checkRefusal selectTree ≡ none) × (checkRefusal delayed ≡ none)
-  -- the condition is wanted: a marked input reaches an XOR along two ways, one for each pin, and it is marked, though nothing changes it
+  -- the condition is wanted: a marked input reaches a XOR along two ways, one for each pin, and it is marked, though nothing changes it
   pub xor-ways : ways ownXor 0 1 ≡ 2
   pub xor-marked : byteOf ownXor (2 ∷ []) [] 1 ≡ 2
   pub xor-unchanged : Change ownXor (2 ∷ []) [] 1 → ⊥
