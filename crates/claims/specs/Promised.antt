@@ -60,7 +60,7 @@ pub record Promised : Type 0 where
   pub marks-exact : MarksExact
   -- A pin with a mark more never takes the mark of a gate away.
   pub gates-monotone : GatesMonotone
-  -- Document 01's examples C1 to C12 come out as it says, and so does a run of two rows.
+  -- Document 01's examples C1 to C12 come out as it says, C10 as document 02's L5 says, and so does a run of two rows.
   pub examples : Examples
   -- Power-up gives each register its start, trusted, or, where none is given, an untrusted 0, whatever the state held before.
   pub power-up-starts : PowerUpStarts
