@@ -1,5 +1,5 @@
 -- Examples of ways and of exact marks (document 02, L5).
-use Prim.Native.Nat.{ℕ, _+_}
+use Prim.Native.Nat.{ℕ}
 use mathlib.Core.Path.{_≡_}
 use mathlib.Core.List.{List, [], _∷_}
 use mathlib.Core.Option.{none}
@@ -7,15 +7,12 @@ use Rattle.gates.specs.Kinds.{CONST, INPUT, REG, NOT, AND, OR, XOR, MUX}
 use Rattle.image.specs.declared.image.Net.{Net}
 use Rattle.image.specs.Image.{net, encode}
 use Rattle.checking.specs.Check.{checkRefusal}
+use Rattle.claims.specs.Examples.{top}
 use Rattle.claims.specs.Ways.{ways}
 use Rattle.claims.specs.Exactness.{byteOf, NoReconvergence, Change}
 
 abbrev image : (nets inputs registers : ℕ) → List Net → List ℕ
 image nets inputs registers xs = encode (record { nets = nets; inputs = inputs; registers = registers; outputs = 0 }) xs
-
--- a pin with the top bit
-abbrev top : ℕ → ℕ
-top j = 32768 + j
 
 -- an input, and the XOR of it with itself
 unfoldable pub ownXor : List ℕ

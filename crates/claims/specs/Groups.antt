@@ -6,6 +6,7 @@ use Rattle.gates.specs.Kinds.{CONST, INPUT, REG, NOT, AND, OR, XOR, MUX, OUT}
 use Rattle.image.specs.declared.image.Net.{Net}
 use Rattle.image.specs.Image.{net}
 use Rattle.doubled.specs.Doubled.{valueNet, valuePin, markPin, groupAt, doubledSize, doubledNets}
+use Rattle.claims.specs.Examples.{top}
 
 -- 0 CONST 1; 1 INPUT; 2 REG(7, no start given); 3 NOT 1; 4 AND(1, 3); 5 OR(1, 4); 6 XOR(3, 5); 7 MUX(4, 5, 6); 8 OUT 7, protected
 unfoldable pub oneOfEach : List Net
@@ -42,10 +43,6 @@ theirGroups =
     ++ (net MUX 8 14 22 ∷ net XOR 8 14 0 ∷ net OR 13 21 0 ∷ net OR 25 26 0 ∷ net AND 23 27 0 ∷ net MUX 13 21 22 ∷ net OR 28 29 0 ∷ [])
     -- 31 OUT: OUT va, free; OUT ta, free
     ++ (net OUT 24 0 0 ∷ net OUT 30 0 0 ∷ [])
-
--- a pin with the top bit
-abbrev top : ℕ → ℕ
-top j = 32768 + j
 
 -- the same nets with inverted pins: the top bit on each pin of kinds 2 to 8 but b of the AND and a of the OR
 unfoldable pub invertedOfEach : List Net

@@ -1,22 +1,25 @@
 -- The promises about exact marks, used by their parts, as in Held; and what they say of a step, in the bytes that it leaves.
 use Prim.Native.Nat.{ℕ, _+_, _/_, _%_, _≤_, _<_}
-use native.Mathlib.Omega.{arith}
 use mathlib.Core.Logic.{_↔_}
 use mathlib.Core.Path.{_≡_, refl, ap, sym, _∙_}
 use mathlib.Core.List.{List, [], _∷_}
 use mathlib.Core.Option.{none}
 use lib.ListN.{getD}
-use Rattle.gates.specs.Relations.{AgreeByte, same, low-high, high-low, Agree}
+use Rattle.gates.specs.Relations.{Agree}
 use Rattle.image.specs.Image.{sizesOf, net, netsOf}
 use Rattle.image.specs.Pins.{pinNet}
-use Rattle.image.proofs.Pairs.{pairs-getD, pairs-length}
 use Rattle.checking.specs.Check.{checkRefusal}
 use Rattle.cycle.specs.Calls.{stepRefusal, stepOf}
-use Rattle.claims.specs.Accepted.{NoneAbove3}
 use Rattle.claims.specs.NetBytes.{netOf}
+use Rattle.claims.specs.History.{refusalOf}
+use Rattle.claims.specs.TwoRun.{steps}
+use Rattle.claims.specs.InBytes.{SameMarks}
 use Rattle.claims.specs.Ways.{ways}
 use Rattle.claims.specs.Exactness.{byteOf, NoReconvergence, Change}
 use Rattle.claims.specs.ExactnessExamples.{ownXor, select, selectTree, delayed}
+use Rattle.claims.proofs.Accepted.{together}
+use Rattle.claims.proofs.Agreeing.{agree-refl, marks-agree, agree-marks}
+use Rattle.claims.proofs.TwoRun.{same-refusal}
 use Rattle.claims.proofs.Examples.{checking}
 use Rattle.claims.proofs.ExactnessExamples.{counting}
 use Rattle.claims.proofs.Promised.{promised}
@@ -32,38 +35,21 @@ ways-in s a j i h n = let w = promised .ways-counted s a j i h in (w .no-pin n, 
 ways-itself : (s : List ℕ) → checkRefusal s ≡ none → (i : ℕ) → i < sizesOf s .nets → ways s i i ≡ 1
 ways-itself s a i h = promised .ways-counted s a i i h .itself refl
 
--- A STEP. With another row and state, which agree with its own, the value of net i is another one
+-- A STEP. With another row and state, which differ from its own at most in the values of marked bytes, the value of net i is another one
 record OtherStep (s st row nets : List ℕ) (i : ℕ) : Type 0 where
   other-row : List ℕ
   other-state : List ℕ
-  rows : Agree row other-row
-  states : Agree st other-state
+  rows : SameMarks row other-row
+  states : SameMarks st other-state
   changed : getD (stepOf s other-state other-row nets .nets) i 0 % 2 ≡ getD (stepOf s st row nets .nets) i 0 % 2 → ⊥
 
-agree-code : {x y : ℕ} → AgreeByte x y → x ≤ 3 → y ≤ 3
-agree-code same h = h
-agree-code low-high h = omega arith
-agree-code high-low h = omega arith
-
-agree-codes : {xs ys : List ℕ} → Agree xs ys → NoneAbove3 xs → NoneAbove3 ys
-agree-codes g h i l = agree-code (pairs-getD i 0 same g) (h i (omega (arith, pairs-length g)))
-
 module _ (s st row nets : List ℕ) (a : stepRefusal s st row nets ≡ none) where
-  -- other rows and states that agree are accepted too
-  agreeing : {row′ st′ : List ℕ} → Agree row row′ → Agree st st′ → stepRefusal s st′ row′ nets ≡ none
-  agreeing g k =
-      let w = promised .when-accepted .step s st row nets .0 a in
-      let t = w .1 in
-      let r = w .2 in
-      promised .when-accepted .step s _ _ nets .1 (
-        w .0,
-        record { size = sym (pairs-length k) ∙ t .size; codes = agree-codes k (t .codes) },
-        record { size = sym (pairs-length g) ∙ r .size; codes = agree-codes g (r .codes) },
-        w .3,
-      )
+  step-byte : (row′ st′ : List ℕ) → Agree row row′ → Agree st st′ → (i : ℕ) → getD (stepOf s st′ row′ nets .nets) i 0 ≡ byteOf s row′ st′ i
+  unfolding refusalOf
+  step-byte row′ st′ g k i = ap (λ o. getD (o .nets) i 0) (promised .step-is-cycle s st′ row′ nets (sym (same-refusal s k (steps g refl)) ∙ a))
 
-  step-byte : (row′ st′ : List ℕ) → stepRefusal s st′ row′ nets ≡ none → (i : ℕ) → getD (stepOf s st′ row′ nets .nets) i 0 ≡ byteOf s row′ st′ i
-  step-byte row′ st′ h i = ap (λ o. getD (o .nets) i 0) (promised .step-is-cycle s _ _ nets h)
+  own-byte : (i : ℕ) → getD (stepOf s st row nets .nets) i 0 ≡ byteOf s row st i
+  own-byte = step-byte row st (agree-refl row) (agree-refl st)
 
   -- net i, of which the condition on ways holds in the bytes of this step, is marked in them exactly if there is such another step
   module _ (i : ℕ) (l : i < sizesOf s .nets)
@@ -73,28 +59,31 @@ module _ (s st row nets : List ℕ) (a : stepRefusal s st row nets ≡ none) whe
     exact =
         let w = promised .when-accepted .step s st row nets .0 a in
         promised .exactness s row st (promised .when-accepted .check s .1 (w .0)) (w .2) (w .1) i l
-        (record { inputs = λ j k m. inputs j k (rw (step-byte row st a j) m); registers = λ j k m. registers j k (rw (step-byte row st a j) m) })
+        (record { inputs = λ j k m. inputs j k (rw (own-byte j) m); registers = λ j k m. registers j k (rw (own-byte j) m) })
 
     marked-changes : getD (stepOf s st row nets .nets) i 0 / 2 ≡ 1 → OtherStep s st row nets i
     marked-changes m =
-        let d = exact .0 (rw (step-byte row st a i) at m) in
+        let d = exact .0 (rw (own-byte i) at m) in
         record {
           other-row = d .other-row;
           other-state = d .other-state;
-          rows = d .rows;
-          states = d .states;
-          changed = λ e. d .changed (rw (step-byte _ _ (agreeing (d .rows) (d .states)) i, step-byte row st a i) at e);
+          rows = agree-marks (d .rows);
+          states = agree-marks (d .states);
+          changed = λ e. d .changed (rw (step-byte _ _ (d .rows) (d .states) i, own-byte i) at e);
         }
 
     changes-marked : OtherStep s st row nets i → getD (stepOf s st row nets .nets) i 0 / 2 ≡ 1
     changes-marked o =
-        rw (step-byte row st a i)
+        let w = promised .when-accepted .step s st row nets .0 a in
+        let g = marks-agree (o .other-row) (together row (w .2 .codes)) (o .rows) in
+        let k = marks-agree (o .other-state) (together st (w .1 .codes)) (o .states) in
+        rw (own-byte i)
         (exact .1 (record {
           other-row = o .other-row;
           other-state = o .other-state;
-          rows = o .rows;
-          states = o .states;
-          changed = λ e. o .changed (rw (step-byte _ _ (agreeing (o .rows) (o .states)) i, step-byte row st a i) e);
+          rows = g;
+          states = k;
+          changed = λ e. o .changed (rw (step-byte _ _ g k i, own-byte i) e);
         }))
 
 -- EXAMPLES, with the nets of their images by the numbers of the kinds
