@@ -100,7 +100,8 @@ pub(crate) fn run_cycles(
     first
 }
 
-/// A byte above 3 holds no value and mark. It draws 11 in a state and 13 in rows.
-fn is_above_3(byte: u8) -> bool {
+/// A byte above 3 holds no value and mark. It draws 11 in a state, and 13 in rows
+/// and in a record.
+pub(crate) fn is_above_3(byte: u8) -> bool {
     byte > 3
 }

@@ -1,5 +1,6 @@
 //! What a call looks at before its first cycle: refusals 9 to 14 for K, states,
-//! rows and output buffers, and 18 of request L4 of document 02.
+//! rows, output buffers and records, and of document 02 refusals 18 of request L4
+//! and 19 of request L6.
 
 use crate::answers::Refusal;
 use crate::netlist::Netlist;
@@ -33,7 +34,7 @@ pub(crate) fn check_row_length(rows: &[u8], length: usize) -> Result<(), Refusal
 }
 
 /// Refusal 14: the net buffer is not N bytes, or in a run the output buffer is
-/// not K * O bytes.
+/// not K * O bytes, or for pages the record is not.
 pub(crate) fn check_buffer_length(buffer: &[u8], length: usize) -> Result<(), Refusal> {
     if buffer.len() != length {
         return Err(Refusal::plain(14));
@@ -41,8 +42,17 @@ pub(crate) fn check_buffer_length(buffer: &[u8], length: usize) -> Result<(), Re
     Ok(())
 }
 
-/// Refusals 11, 13 and 18: a state or the rows have a bad byte. The place is the
-/// index of the first one. In a run it is counted through all K * I row bytes.
+/// Refusal 19: the page buffer is not exactly as long as the pages.
+pub(crate) fn check_page_length(page: &[u8], length: usize) -> Result<(), Refusal> {
+    if page.len() != length {
+        return Err(Refusal::plain(19));
+    }
+    Ok(())
+}
+
+/// Refusals 11, 13 and 18: a state, the rows or a record have a bad byte. The
+/// place is the index of the first one. In a run it is counted through all K * I
+/// row bytes, and in a record through all its bytes.
 pub(crate) fn check_bytes(
     bytes: &[u8],
     is_bad: fn(u8) -> bool,

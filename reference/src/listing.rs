@@ -56,7 +56,7 @@ fn list_cycles(
 /// or the input ends, so a short read is not the end of input. A row is empty
 /// at the end of input, and the last row may be short; the step then draws 12,
 /// even if one of the row's bytes is bad.
-fn read_row(input: &mut impl Read, length: usize) -> io::Result<Vec<u8>> {
+pub(crate) fn read_row(input: &mut impl Read, length: usize) -> io::Result<Vec<u8>> {
     let mut row = vec![0; length];
     let mut filled = 0;
     while filled < length {
@@ -93,6 +93,6 @@ fn print_cycle(
 }
 
 /// Prints the line of a refusal.
-fn print_refusal(output: &mut impl Write, refusal: Refusal) -> io::Result<()> {
+pub(crate) fn print_refusal(output: &mut impl Write, refusal: Refusal) -> io::Result<()> {
     writeln!(output, "refused {} {}", refusal.number, refusal.place)
 }

@@ -14,12 +14,13 @@ use Rattle.checking.proofs.Checked.{check-none}
 use Rattle.cycle.specs.Calls.{PoweredUp, powerUpOf}
 use Rattle.cycle.proofs.Calls.{starts-state, powered-up}
 use Rattle.input.specs.Rest.{wholeOf, restOf}
+use Rattle.row_runs.specs.Taking.{AcceptedState}
+use Rattle.row_runs.proofs.Answering.{accepted-state}
 use Rattle.listing_output.specs.declared.output.Progress.{Progress}
 use Rattle.listing_output.specs.Printed.{Printed, printed, blank, withLast}
 use Rattle.listing_rows.specs.Rows.{Listed, rowsUpTo, rowsOf, withRows, withEnd}
-use Rattle.listing_rows.specs.Taken.{AcceptedState, Held, held, Taken, Whole}
+use Rattle.listing_rows.specs.Taken.{Held, held, Taken, Whole}
 use Rattle.listing_rows.proofs.Taking.{rows-append, rows-closed, with-append, end-open, end-closed, taken-none, taken-then}
-use Rattle.listing_rows.proofs.Many.{accepted-state}
 use Rattle.listing_turns.specs.Reading.{Ended, Turned, Lists}
 
 -- THE END closes a listing

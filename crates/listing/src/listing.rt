@@ -1,13 +1,14 @@
 // The whole listing: power-up, and turns of reading and taking rows until the listing is closed.
 use checking::check;
+use gates::OUT;
 use image::Sizes;
 use image::sizes_of;
-use listing_cycles::list_outs;
 use listing_output::Progress;
 use listing_output::begun;
 use listing_output::print_end;
 use listing_output::print_refusal;
 use listing_turns::take_turn;
+use lists::list_nets;
 use refusals::Outcome;
 use tracker::power_up;
 ghost use mathlib.Core.Path.{_≡_};
@@ -47,7 +48,7 @@ fn take_input(
         (record { state = powerUpOf (now (image .entry)) (now (state .entry)) .state; printed = blank (now (text .entry)) })
         (held (now (state .exit)) (now (text .exit)) r)) ⌝ }
 {
-    list_outs(image, outs);
+    list_nets(image, OUT, outs);
     power_up(image, state);
     let mut p = begun();
     let mut have: usize = 0;

@@ -38,10 +38,6 @@ cycle-there c k o h = let m : (c + 1) * o ≤ k * o = mul-le-mul (omega arith) (
 pub cycle-next : (c o : ℕ) → c * o + o ≡ (c + 1) * o
 cycle-next c o = omega (arith, add-mul c 1 o, one-mul o)
 
--- of these bytes
-pub lines-of : (s outs : List ℕ) (k : ℕ) (p : Printed) {bytes bytes′ : List ℕ} {q : Printed} → bytes ≡ bytes′ → q ≡ withLines s outs k bytes p → q ≡ withLines s outs k bytes′ p
-lines-of s outs k p e h = h ∙ rw e
-
 -- all lines
 pub lines-all : (s outs bytes : List ℕ) (k : ℕ) (p : Printed) → withLines s outs (k - 0) (drop 0 bytes) p ≡ withLines s outs k bytes p
 lines-all s outs bytes k p = let e : k - 0 ≡ k = omega arith in rw e

@@ -11,8 +11,8 @@ use lib.Seq.{drop-cons, getD-drop, drop-drop}
 use Rattle.gates.specs.Kinds.{OUT}
 use Rattle.gates.specs.Rules.{mark}
 use Rattle.image.specs.Image.{sizesOf, operandAt, netAt, netsFrom, netsOf}
+use Rattle.image.specs.Places.{placesFrom}
 use Rattle.cycle.specs.Cycle.{Verdict, clear, flow, verdictFrom, outputsFrom}
-use Rattle.lists.specs.Lists.{placesFrom}
 use Rattle.listing_cycles.specs.ByOutputs.{verdictBy}
 
 -- the OUT at place j decides, or leaves the verdict to those after it

@@ -9,9 +9,9 @@ use lib.ListN.{length, getD, take, drop}
 use Rattle.gates.specs.Kinds.{OUT}
 use Rattle.gates.specs.Rules.{mark}
 use Rattle.image.specs.Image.{sizesOf, operandAt, netsOf}
+use Rattle.image.specs.Places.{placesFrom}
 use Rattle.checking.specs.Check.{checkRefusal}
 use Rattle.cycle.specs.Cycle.{Verdict, clear, flow}
-use Rattle.lists.specs.Lists.{placesFrom}
 use Rattle.listing_output.specs.Printed.{Printed, withCycle}
 
 -- an image that is accepted, and a list of the numbers of its OUTs, in net order

@@ -1,12 +1,10 @@
-// The lines of a run: one for each of its cycles, by their output bytes.
+// The lines of cycles, by their output bytes.
 use crate::outs::verdict_by;
 use listing_output::Progress;
 use listing_output::print_cycle;
-use tracker::run;
 ghost use mathlib.Core.Path.{_≡_};
 ghost use Prim.Native.Nat.{_+_, _*_, _<_, _^_};
 ghost use lib.ListN.{length};
-ghost use Rattle.cycle.specs.Calls.{runOf};
 ghost use Rattle.listing_output.specs.Printed.{printed, withCycle, Room, Grown};
 ghost use Rattle.listing_cycles.specs.ByOutputs.{Outs, verdictBy, withLines};
 
@@ -54,27 +52,4 @@ pub fn print_cycles(
         c += 1;
     }
     p
-}
-
-// A run of k rows that are good, and a line for each of its cycles.
-pub fn print_run(
-    image: &[u8],
-    outs: &[u16],
-    k: usize,
-    state: &mut [u8],
-    rows: &[u8],
-    outputs: &mut [u8],
-    p: Progress,
-    text: &mut [u8],
-) -> Progress
-    requires { ⌜ Outs (now image) (now outs) × (length (now outputs) ≡ k * length (now outs)) ⌝ }
-    requires { ⌜ Room (now text) p × (p .cycles + k < 2 ^ 64) ⌝ }
-    ensures { λ r. ⌜ printed (now (text .exit)) r
-        ≡ withLines (now (image .entry)) (now (outs .entry)) k (runOf (now (image .entry)) (now (state .entry)) k (now (rows .entry)) (now (outputs .entry)) .outputs)
-        (printed (now (text .entry)) p) ⌝ }
-    ensures { λ r. ⌜ now (state .exit) ≡ runOf (now (image .entry)) (now (state .entry)) k (now (rows .entry)) (now (outputs .entry)) .state ⌝ }
-    ensures { λ r. ⌜ Grown (now (text .exit)) k p r ⌝ }
-{
-    run(image, k, state, rows, outputs);
-    print_cycles(image, outs, k, outputs, p, text)
 }

@@ -3,5 +3,3 @@ mod cycles;
 mod outs;
 
 pub use cycles::print_cycles;
-pub use cycles::print_run;
-pub use outs::list_outs;

@@ -1,50 +1,54 @@
--- A run of rows is those rows one by one: its cycles are theirs, and the lines by its output bytes are their lines.
+-- A run of rows is those rows one by one: its cycles are theirs, the lines by its output bytes are their lines, and the first bad one draws its refusal.
 use Prim.Native.Nat.{ℕ, zero, suc, _*_, _≤_, _<_}
 use native.Mathlib.Nat.{one-mul, suc-mul, zero-mul}
 use native.Mathlib.Omega.{arith}
 use mathlib.Core.Path.{_≡_, refl, sym, ap, _∙_}
-use mathlib.Core.Bool.{true}
+use mathlib.Core.Bool.{true, false}
 use mathlib.Core.List.{List, [], _∷_, append-nil}
-use mathlib.Core.Option.{none}
+use mathlib.Core.Option.{Option, none, some}
 use lib.Dec.{lit≤}
-use lib.ListN.{length, take, drop}
-use lib.Seq.{take-all, take-at, drop-at}
+use lib.ListN.{length, take, drop, length-drop}
+use lib.Seq.{length-take-le, take-all, take-at, drop-at}
 use Rattle.gates.specs.Kinds.{OUT}
 use Rattle.image.specs.Image.{sizesOf, netsOf}
+use Rattle.image.specs.Places.{placesFrom}
+use Rattle.refusals.specs.declared.answer.Refusal.{Refusal}
+use Rattle.refusals.proofs.Refusals.{byte-none}
+use Rattle.checking.proofs.Checked.{Checked, check-none}
 use Rattle.cycle.specs.Cycle.{plain, Verdict, clear, flow, Cycle, cycleOf, cyclesOf, outputsOf, stateAfter, firstOf, firstFlow}
 use Rattle.cycle.specs.Calls.{done, asRun, runOf}
 use Rattle.cycle.proofs.Cycles.{outputs-length}
 use Rattle.cycle.proofs.Selections.{selection-length}
-use Rattle.cycle.proofs.Calls.{Ready, run-none, run-accepted, first-ready, rest-ready}
-use Rattle.lists.specs.Lists.{placesFrom}
+use Rattle.cycle.proofs.Calls.{IsState, Ready, run-none, run-accepted, cycle-state}
+use Rattle.row_runs.specs.Rows.{badIn, rowRefusal, goodRows}
+use Rattle.row_runs.specs.Taking.{Lent, cyclesOn}
+use Rattle.row_runs.proofs.GoodRows.{good-row, bad-row}
+use Rattle.row_runs.proofs.Answering.{accepted-state, run-bad}
 use Rattle.lists.proofs.Placing.{places-selected}
-use Rattle.listing_output.specs.Printed.{Printed, withCycle}
+use Rattle.listing_text.specs.Lines.{refusedLine}
+use Rattle.listing_output.specs.Printed.{Printed, withCycle, withLast}
 use Rattle.listing_cycles.specs.ByOutputs.{verdictBy, withLines}
 use Rattle.listing_cycles.proofs.Verdicts.{verdict-by-outputs}
 use Rattle.listing_rows.specs.Rows.{Listed, withAnswer, withRow, rowsOf}
-use Rattle.listing_rows.specs.Taken.{Holds, Taken}
-use Rattle.listing_rows.proofs.Taking.{rows-none, rows-whole}
+use Rattle.listing_rows.specs.Taken.{Held, Holds, Taken}
+use Rattle.listing_rows.proofs.Taking.{rows-closed, rows-none, rows-whole}
 
 -- a line for each of some cycles
 pub withCycles : List Cycle → Printed → Printed
 withCycles [] p = p
 withCycles (c ∷ cs) p = withCycles cs (withCycle (c .outputs) (c .verdict) p)
 
+-- and the refusal of a row as the last line
+abbrev pub withRefusal : Option Refusal → Printed → Printed
+withRefusal none p = p
+withRefusal (some r) p = withLast (refusedLine r) p
+
 -- a line leaves the listing open
 goes-on : (outputs : List ℕ) (v : Verdict) (p : Printed) → withCycle outputs v p .goesOn ≡ p .goesOn
 unfolding withCycle
 goes-on outputs v p = refl
 
-pub cycles-go-on : (cs : List Cycle) (p : Printed) → withCycles cs p .goesOn ≡ p .goesOn
-unfolding withCycles
-cycles-go-on [] p = refl
-cycles-go-on (c ∷ cs) p = cycles-go-on cs (withCycle (c .outputs) (c .verdict) p) ∙ goes-on (c .outputs) (c .verdict) p
-
 module _ (s : List ℕ) where
-  -- the cycles of k rows of the image s
-  abbrev pub cyclesOn : (k : ℕ) (rows st : List ℕ) → List Cycle
-  cyclesOn k rows st = cyclesOf plain (netsOf s) (sizesOf s .inputs) k rows st
-
   -- LINES by output bytes
   cycle-outputs : (row st : List ℕ) → length (cycleOf plain (netsOf s) row st .outputs) ≡ length (placesFrom OUT 0 (netsOf s))
   unfolding cycleOf
@@ -54,17 +58,17 @@ module _ (s : List ℕ) where
   unfolding cycleOf
   cycle-verdict row st = verdict-by-outputs s _
 
-  pub lines-are : (k : ℕ) (rows st : List ℕ) (p : Printed)
-      → withLines s (placesFrom OUT 0 (netsOf s)) k (outputsOf (cyclesOn k rows st)) p ≡ withCycles (cyclesOn k rows st) p
+  pub lines-are : (i k : ℕ) (rows st : List ℕ) (p : Printed)
+      → withLines s (placesFrom OUT 0 (netsOf s)) k (outputsOf (cyclesOn s i k rows st)) p ≡ withCycles (cyclesOn s i k rows st) p
   unfolding withLines withCycles cyclesOf outputsOf
-  lines-are zero rows st p = refl
-  lines-are (suc k) rows st p =
-      let row = take (sizesOf s .inputs) rows in
+  lines-are i zero rows st p = refl
+  lines-are i (suc k) rows st p =
+      let row = take i rows in
       let c = cycleOf plain (netsOf s) row st in
-      let rest = outputsOf (cyclesOn k (drop (sizesOf s .inputs) rows) (c .state)) in
+      let rest = outputsOf (cyclesOn s i k (drop i rows) (c .state)) in
       let outs = placesFrom OUT 0 (netsOf s) in
       rw (take-at (c .outputs) rest (length outs) (cycle-outputs row st), drop-at (c .outputs) rest (length outs) (cycle-outputs row st), cycle-verdict row st)
-      (lines-are k (drop (sizesOf s .inputs) rows) (c .state) (withCycle (c .outputs) (c .verdict) p))
+      (lines-are i k (drop i rows) (c .state) (withCycle (c .outputs) (c .verdict) p))
 
   -- ONE ROW
   first-verdict : (v : Verdict) → firstOf 0 v (record { cycle = 1; verdict = clear }) .verdict ≡ v
@@ -101,21 +105,73 @@ module _ (s : List ℕ) where
           outputs = outputs-size;
         })
 
-  -- MANY ROWS
-  pub rows-cycles : (k : ℕ) {st rows : List ℕ} {p : Printed} → 0 < sizesOf s .inputs → p .goesOn ≡ true → Ready s st (k * sizesOf s .inputs) rows
-      → Taken s (sizesOf s .inputs) (rowsOf (sizesOf s .inputs) rows) (record { state = st; printed = p })
-      (record { state = stateAfter st (cyclesOn k rows st); printed = withCycles (cyclesOn k rows st) p })
-  unfolding cyclesOf stateAfter withCycles
-  rows-cycles zero {st} {rows} some going r =
-      record { leads = λ l h. rw (rows-none s (sizesOf s .inputs) rows l (r .size ∙ zero-mul (sizesOf s .inputs))) h }
-  rows-cycles (suc k) {st} {rows} {p} some going r =
-      let i = sizesOf s .inputs in
-      let first = first-ready k r in
-      let c = cycleOf plain (netsOf s) (take i rows) st in
-      let more = rows-cycles k {p = withCycle (c .outputs) (c .verdict) p} some (goes-on (c .outputs) (c .verdict) p ∙ going) (rest-ready k r) in
-      let long : i ≤ length rows = omega (arith, r .size, suc-mul k i) in
+  bad-holds : {st : List ℕ} (row : List ℕ) {r : Refusal} → Checked s → IsState s st → length row ≡ sizesOf s .inputs → 0 < sizesOf s .inputs → badIn row ≡ some r
+      → {p : Printed} (l : Listed) → Holds s (record { state = st; printed = p }) l
+      → Holds s (record { state = st; printed = withLast (refusedLine r) p }) (withRow s row l) × (withRow s row l .printed .goesOn ≡ false)
+  unfolding withRow withAnswer withLast
+  bad-holds row image state size pos bad l h =
+      let lent : Lent s (sizesOf s .inputs) (sizesOf s .outputs) 1 (l .state) row (l .outputs) =
       record {
-        leads = λ l h.
-            rw (rows-whole s i some rows l (ap (λ (q : Printed). q .goesOn) (h .printed) ∙ going) long)
-            (more .leads (withRow s (take i rows) l) (row-holds first l h));
-      }
+        accepted = check-none s .1 image;
+        inputs = refl;
+        some = pos;
+        each = refl;
+        state = rw (h .state) (accepted-state state);
+        few = lit≤ tt;
+        row-bytes = size ∙ sym (one-mul (sizesOf s .inputs));
+        output-bytes = h .outputs ∙ sym (one-mul (sizesOf s .outputs));
+      } in
+      let e = run-bad lent bad in
+      (rw e (record { state = h .state; printed = rw (h .printed); outputs = h .outputs }), rw e)
+
+  -- MANY ROWS: those before the first bad one have their lines, and its refusal is the last line
+  abbrev linesLeft : (i k : ℕ) (rows st : List ℕ) → Printed → Held
+  linesLeft i k rows st p =
+      let cs = cyclesOn s i (goodRows i k rows) rows st in
+      record { state = stateAfter st cs; printed = withRefusal (rowRefusal i k rows) (withCycles cs p) }
+
+  rows-lines : (k : ℕ) (rows st : List ℕ) (p : Printed) → Checked s → 0 < sizesOf s .inputs → length rows ≡ k * sizesOf s .inputs → IsState s st → p .goesOn ≡ true
+      → Taken s (sizesOf s .inputs) (rowsOf (sizesOf s .inputs) rows) (record { state = st; printed = p }) (linesLeft (sizesOf s .inputs) k rows st p)
+  unfolding cyclesOf stateAfter withCycles goodRows rowRefusal
+  rows-lines zero rows st p image pos size state going =
+      record { leads = λ l h. rw (rows-none s (sizesOf s .inputs) rows l (size ∙ zero-mul (sizesOf s .inputs))) h }
+  rows-lines (suc k) rows st p image pos size state going =
+      by (badIn row) refl (λ st′ p′. rows-lines k (drop i rows) st′ p′ image pos (omega (arith, size, suc-mul k i, length-drop i rows)))
+    where
+      i : ℕ
+      i = sizesOf s .inputs
+
+      row : List ℕ
+      row = take i rows
+
+      long : i ≤ length rows
+      long = omega (arith, size, suc-mul k i)
+
+      row-size : length row ≡ i
+      row-size = length-take-le i rows long
+
+      c : Cycle
+      c = cycleOf plain (netsOf s) row st
+
+      open-then : {l : Listed} → Holds s (record { state = st; printed = p }) l → l .printed .goesOn ≡ true
+      open-then h = ap (λ (q : Printed). q .goesOn) (h .printed) ∙ going
+
+      by : (o : Option Refusal) → badIn row ≡ o
+          → ((st′ : List ℕ) (p′ : Printed) → IsState s st′ → p′ .goesOn ≡ true → Taken s i (rowsOf i (drop i rows)) (record { state = st′; printed = p′ }) (linesLeft i k (drop i rows) st′ p′))
+          → Taken s i (rowsOf i rows) (record { state = st; printed = p }) (linesLeft i (suc k) rows st p)
+      by none e later =
+          let first : Ready s st i row = record { image = image; state = state; size = row-size; codes = byte-none 13 0 row .0 e } in
+          let more = later (c .state) (withCycle (c .outputs) (c .verdict) p) (cycle-state first) (goes-on (c .outputs) (c .verdict) p ∙ going) in
+          let row-is = good-row i k rows e in
+          record { leads = λ l h. rw (rows-whole s i pos rows l (open-then h) long, row-is .0, row-is .1) (more .leads (withRow s row l) (row-holds first l h)) }
+      by (some r) e later =
+          let row-is = bad-row i k rows e in
+          record {
+            leads = λ l h.
+                let bad = bad-holds row image state row-size pos e l h in
+                rw (rows-whole s i pos rows l (open-then h) long, rows-closed s i (rowsOf i (drop i rows)) (withRow s row l) (bad .1), row-is .0, row-is .1) (bad .0);
+          }
+
+  pub rows-taken : {i : ℕ} (k : ℕ) (rows st : List ℕ) (p : Printed) → Checked s → i ≡ sizesOf s .inputs → 0 < i → length rows ≡ k * i → IsState s st → p .goesOn ≡ true
+      → Taken s i (rowsOf i rows) (record { state = st; printed = p }) (linesLeft i k rows st p)
+  rows-taken k rows st p image inputs pos size state going = rw inputs (rows-lines k rows st p image (rw inputs at pos) (size ∙ ap (λ m. k * m) inputs) state going)

@@ -10,7 +10,7 @@ use lib.ListN.{length, take, drop, length-append, length-drop}
 use lib.Seq.{length-take-le, take-all, take-append-le, drop-append-le}
 use borrow.Author.Tests.{lt-ltb, le-ltb}
 use Rattle.listing_text.specs.Lines.{endLine}
-use Rattle.listing_output.specs.Printed.{withLast}
+use Rattle.listing_output.specs.Printed.{Printed, withLast}
 use Rattle.listing_rows.specs.Rows.{Listed, withRow, withShort, rowsUpTo, rowsOf, withRows, withEnd}
 use Rattle.listing_rows.specs.Taken.{Held, Taken}
 
@@ -144,3 +144,8 @@ taken-closed {s} {i} ys {xs} {b = b} n t =
           let closed : withRows s i xs l .printed .goesOn ≡ false = ap (λ p. p .goesOn) (h .printed) ∙ n in
           rw (with-append s i xs ys l, rows-closed s i ys (withRows s i xs l) closed) h;
     }
+
+-- what is held may be written in another way
+pub taken-to : {s : List ℕ} {i : ℕ} {rows : List (List ℕ)} {a b : Held} {st : List ℕ} {p : Printed} → Taken s i rows a b → st ≡ b .state → p ≡ b .printed
+    → Taken s i rows a (record { state = st; printed = p })
+taken-to t e f = record { leads = λ l h. let u = t .leads l h in record { state = u .state ∙ sym e; printed = u .printed ∙ sym f; outputs = u .outputs } }

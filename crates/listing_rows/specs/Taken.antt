@@ -2,12 +2,10 @@
 use Prim.Native.Nat.{ℕ, _+_, _*_, _≤_, _<_, _^_}
 use mathlib.Core.Path.{_≡_}
 use mathlib.Core.List.{List}
-use mathlib.Core.Option.{none}
 use mathlib.Core.Bool.{true}
 use lib.ListN.{length}
 use Rattle.image.specs.Image.{sizesOf}
-use Rattle.refusals.specs.Refusals.{plainBytes, badByte}
-use Rattle.cycle.specs.Calls.{stateLength}
+use Rattle.row_runs.specs.Taking.{AcceptedState}
 use Rattle.listing_output.specs.declared.output.Progress.{Progress}
 use Rattle.listing_output.specs.Printed.{Printed, printed, Room}
 use Rattle.listing_cycles.specs.ByOutputs.{Outs}
@@ -18,11 +16,6 @@ pub record Known (s : List ℕ) (i : ℕ) (list : List ℕ) : Type 0 where
   pub outs : Outs s list
   pub inputs : i ≡ sizesOf s .inputs
   pub some : 0 < i
-
--- a state that a run accepts: R bytes, each 0 to 3
-pub record AcceptedState (s st : List ℕ) : Type 0 where
-  pub size : length st ≡ stateLength (sizesOf s)
-  pub codes : badByte (plainBytes .bad) 11 0 st ≡ none
 
 -- what the code holds of a listing: the state of the registers, and what is printed. Output bytes are printed with their row, and no later line depends on them
 pub record Held : Type 0 where

@@ -1,18 +1,17 @@
 // Rows that are taken by runs: one run for many rows, and a line for each of its cycles.
-use cycle::RunAnswer;
 use listing_cycles::print_cycles;
-use listing_cycles::print_run;
 use listing_output::Progress;
 use listing_output::print_refusal;
-use refusals::Refusal;
-use tracker::run;
+use refusals::Outcome;
+use row_runs::run_rows;
 ghost use mathlib.Core.Path.{_≡_};
 ghost use mathlib.Core.Bool.{false};
 ghost use Prim.Native.Nat.{_+_, _*_, _≤_, _<_, _^_};
 ghost use lib.ListN.{length};
+ghost use Rattle.row_runs.specs.Taking.{AcceptedState};
 ghost use Rattle.listing_output.specs.Printed.{Room};
 ghost use Rattle.listing_rows.specs.Rows.{rowsOf};
-ghost use Rattle.listing_rows.specs.Taken.{held, Whole, Known, AcceptedState, Taken, Asks, Leaves};
+ghost use Rattle.listing_rows.specs.Taken.{held, Whole, Known, Taken, Asks, Leaves};
 
 // The most cycles of one run.
 const MOST_CYCLES: usize = 4096;
@@ -35,8 +34,8 @@ fn most_rows(outputs: usize, bytes: usize) -> usize
     least(MOST_CYCLES, bytes / outputs)
 }
 
-// At most 4,096 rows: one run, and a line for each cycle. Where a byte is bad, the rows before its row are run, and the refusal is the last
-// line; its place counts within its row.
+// At most 4,096 rows: one run, and a line for each of its cycles. Where a row has a bad byte, the rows before it are run, and its refusal is
+// the last line.
 fn take_many(
     image: &[u8],
     outs: &[u16],
@@ -53,32 +52,14 @@ fn take_many(
         (held (now (state .entry)) (now (text .entry)) p) (held (now (state .exit)) (now (text .exit)) r) ⌝ }
     ensures { λ r. ⌜ Leaves (now (image .entry)) (now (state .exit)) (now (text .exit)) k p r ⌝ }
 {
-    let a = run(image, k, state, rows, outputs);
-    match a {
-        RunAnswer::Done(_) => print_cycles(image, outs, k, outputs, p, text),
-        RunAnswer::Refused(r) => {
-            let good = r.place / inputs;
-            let end = good * inputs;
-            let filled = good * outs.len();
-            let q = print_run(
-                image,
-                outs,
-                good,
-                state,
-                &rows[..end],
-                &mut outputs[..filled],
-                p,
-                text,
-            );
-            print_refusal(
-                text,
-                q,
-                Refusal {
-                    number: r.number,
-                    place: r.place - end,
-                },
-            )
-        }
+    let ran = run_rows(image, inputs, outs.len(), k, state, rows, outputs);
+    let good = ran.good;
+    let filled = good * outs.len();
+    let q = print_cycles(image, outs, good, &outputs[..filled], p, text);
+    let o = ran.outcome;
+    match o {
+        Outcome::Done => q,
+        Outcome::Refused(r) => print_refusal(text, q, r),
     }
 }
 

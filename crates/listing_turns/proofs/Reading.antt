@@ -16,8 +16,7 @@ use Rattle.listing_output.specs.Printed.{Printed, printed, withLast, Room, Grow
 use Rattle.listing_output.proofs.Printing.{last-leaves}
 use Rattle.listing_rows.specs.Rows.{Listed, withShort, rowsOf}
 use Rattle.listing_rows.specs.Taken.{Held, held, Holds, Taken, Leaves}
-use Rattle.listing_rows.proofs.Taking.{rows-none, rows-short, end-open, end-closed}
-use Rattle.listing_rows.proofs.ByRuns.{taken-to}
+use Rattle.listing_rows.proofs.Taking.{rows-none, rows-short, end-open, end-closed, taken-to}
 use Rattle.listing_turns.specs.Reading.{lastLine, Ended, Took, Turned}
 
 -- THE END of the input, with an unfinished row of n bytes or none

@@ -13,8 +13,9 @@ ghost use mathlib.Core.Path.{_≡_};
 ghost use mathlib.Core.Bool.{true, false};
 ghost use Prim.Native.Nat.{_+_, _≤_, _<_, _^_};
 ghost use lib.ListN.{length, take};
+ghost use Rattle.row_runs.specs.Taking.{AcceptedState};
 ghost use Rattle.listing_output.specs.Printed.{printed, withLast, Room, Grown};
-ghost use Rattle.listing_rows.specs.Taken.{held, Known, AcceptedState, Leaves};
+ghost use Rattle.listing_rows.specs.Taken.{held, Known, Leaves};
 ghost use Rattle.listing_turns.specs.Reading.{lastLine, Took, Turned};
 
 // One read of rows, behind the bytes of an unfinished row. It may wait for them, so all that is printed has to be written out before.

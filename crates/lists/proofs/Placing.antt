@@ -15,6 +15,7 @@ use Rattle.gates.specs.Kinds.{REG, NOT, OUT}
 use Rattle.gates.specs.Rules.{mark}
 use Rattle.image.specs.declared.image.Net.{Net}
 use Rattle.image.specs.Image.{sizesOf, net, kindAt, operandAt, netAt, netsFrom, netsOf, count}
+use Rattle.image.specs.Places.{placesFrom}
 use Rattle.image.proofs.Nets.{net-in, length-nets}
 use Rattle.unknowns.specs.Widths.{ruleBy, Coded}
 use Rattle.cycle.specs.Cycle.{Rule, pinByte, Verdict, clear, flow, outputsFrom, verdictFrom, clocked}
@@ -23,7 +24,7 @@ use Rattle.cycle.proofs.Filling.{Pass, pass-takes, pass-skips, Filled, fill-beg
 use Rattle.cycle.proofs.Deciding.{below-or-here}
 use Rattle.inverses.specs.Inverses.{putBoth}
 use Rattle.inverses.proofs.Places.{put-size, put-here, put-other, put-keeps}
-use Rattle.lists.specs.Lists.{placesFrom, protectedOf, Within, Places, Put, firstMarked}
+use Rattle.lists.specs.Lists.{protectedOf, Within, Places, Put, firstMarked}
 
 -- THE LIST of the nets of kind k
 pub places-selected : (k : ℕ) → Selection k (placesFrom k) (λ i x. i)

@@ -1,5 +1,5 @@
 -- Terms of the contracts of the lists of net numbers, and of the passes by these lists. No public call's contract uses them.
-use Prim.Native.Nat.{ℕ, suc, _-_, _<_, _≤_}
+use Prim.Native.Nat.{ℕ, _-_, _<_, _≤_}
 use mathlib.Core.Path.{_≡_}
 use mathlib.Core.List.{List, [], _∷_, map}
 use mathlib.Core.Bool.{cond}
@@ -7,16 +7,11 @@ use lib.Dec.{eqb}
 use lib.ListN.{length, getD, take, drop}
 use Rattle.gates.specs.Rules.{mark}
 use Rattle.gates.specs.Kinds.{INPUT, REG, NOT, OUT}
-use Rattle.image.specs.declared.image.Net.{Net}
 use Rattle.image.specs.Image.{sizesOf, kindAt, operandAt, netsOf}
+use Rattle.image.specs.Places.{placesFrom}
 use Rattle.cycle.specs.Cycle.{Verdict, clear, flow}
 use Rattle.inverses.specs.Inverses.{Both}
 use Rattle.lists.specs.declared.lists.Parts.{Parts}
-
--- the numbers of the nets of kind k among nets, the first of which is net i, in net order
-unfoldable pub placesFrom : (k i : ℕ) → List Net → List ℕ
-placesFrom k i [] = []
-placesFrom k i (x ∷ xs) = cond (eqb (x .kind) k) (i ∷ placesFrom k (suc i) xs) (placesFrom k (suc i) xs)
 
 -- of some OUTs of an image s, by their numbers, those that are protected
 unfoldable pub protectedOf : (s list : List ℕ) → List ℕ

@@ -8,3 +8,4 @@ pub use listed::put_bytes;
 pub use listed::take_bytes;
 pub use lists::Parts;
 pub use lists::find_parts;
+pub use lists::list_nets;

@@ -10,11 +10,12 @@ ghost use mathlib.Core.Option.{none};
 ghost use lib.ListN.{length};
 ghost use Rattle.gates.specs.Kinds.{REG};
 ghost use Rattle.image.specs.Image.{netsOf};
+ghost use Rattle.image.specs.Places.{placesFrom};
 ghost use Rattle.checking.specs.Check.{checkRefusal};
 ghost use Rattle.cycle.specs.Answers.{verdictIn, firstFlowIn};
 ghost use Rattle.cycle.specs.Cycle.{firstOf};
 ghost use Rattle.unknowns.specs.Widths.{Coded};
-ghost use Rattle.lists.specs.Lists.{placesFrom, Within, Places, Put, atPins, gathered, firstMarked};
+ghost use Rattle.lists.specs.Lists.{Within, Places, Put, atPins, gathered, firstMarked};
 
 // Each listed net takes a code, in order, and its inverse.
 pub fn put_bytes(width: usize, list: &[u16], bytes: &[u8], nets: &mut [u8])

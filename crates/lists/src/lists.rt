@@ -13,8 +13,9 @@ ghost use Prim.Native.Nat.{ℕ, _+_, _-_, _<_, _≤_};
 ghost use lib.ListN.{length, take, drop};
 ghost use Rattle.gates.specs.Kinds.{INPUT, REG, NOT, OUT};
 ghost use Rattle.image.specs.Image.{sizesOf, kindAt, netsOf, count};
+ghost use Rattle.image.specs.Places.{placesFrom};
 ghost use Rattle.checking.specs.Check.{checkRefusal};
-ghost use Rattle.lists.specs.Lists.{placesFrom, protectedOf, Found, Watched};
+ghost use Rattle.lists.specs.Lists.{protectedOf, Found, Watched};
 
 // 1 where the flag is set, and 0 where not.
 fn one_if(flag: bool) -> usize
@@ -25,7 +26,7 @@ fn one_if(flag: bool) -> usize
 
 // The numbers of all nets of a kind, in net order. The list is as long as there are such nets. A number is written before it is known
 // whether the net is of the kind, and counted if it is: so there is no branch on the kind.
-fn list_nets(image: &[u8], kind: u8, list: &mut [u16])
+pub fn list_nets(image: &[u8], kind: u8, list: &mut [u16])
     requires { ⌜ checkRefusal (now image) ≡ none ⌝ }
     requires { ⌜ length (now list) ≡ count kind (netsOf (now image)) ⌝ }
     ensures { λ r. ⌜ now (list .exit) ≡ placesFrom kind 0 (netsOf (now (image .entry))) ⌝ }

@@ -53,6 +53,17 @@ fn first_bad(top: u8, s: &[u8]) -> usize
     i
 }
 
+// The refusal of a lent slice: `number` at its first bad byte, where `top` is the highest code.
+pub fn byte_refusal(number: u32, top: u8, s: &[u8]) -> Outcome
+    ensures { λ r. ⌜ refusalIn r ≡ badByte (badAbove top) number 0 (now (s .entry)) ⌝ }
+{
+    let bad = first_bad(top, s);
+    if bad != s.len() {
+        return refused(number, bad);
+    }
+    Outcome::Done
+}
+
 // Two refusals of a lent slice: `number` where it is not n bytes long, and else `next` at its first bad byte, where `top` is the highest code.
 pub fn codes_refusal(number: u32, next: u32, n: usize, top: u8, s: &[u8]) -> Outcome
     ensures { λ r. ⌜ refusalIn r ≡ (badLength number n (now (s .entry)) then badByte (badAbove top) next 0 (now (s .entry))) ⌝ }
@@ -60,9 +71,5 @@ pub fn codes_refusal(number: u32, next: u32, n: usize, top: u8, s: &[u8]) -> Out
     if s.len() != n {
         return refused(number, 0);
     }
-    let bad = first_bad(top, s);
-    if bad != s.len() {
-        return refused(next, bad);
-    }
-    Outcome::Done
+    byte_refusal(next, top, s)
 }

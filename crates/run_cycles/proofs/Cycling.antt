@@ -15,6 +15,7 @@ use Rattle.unknowns.specs.Widths.{ruleBy, codeBy, Coded}
 use Rattle.unknowns.proofs.ByWidth.{const-code, rule-code}
 use Rattle.image.specs.declared.image.Net.{Net}
 use Rattle.image.specs.Image.{sizesOf, net, kindAt, operandAt, netAt, netsOf, count}
+use Rattle.image.specs.Places.{placesFrom}
 use Rattle.image.proofs.Nets.{net-in, length-nets}
 use Rattle.image.proofs.Pairs.{pairs-places, pairs-getD}
 use Rattle.checking.proofs.Checked.{Checked, check-none, net-passes, pin-below}
@@ -25,7 +26,7 @@ use Rattle.cycle.proofs.Ruling.{sight, same-byte, ruled-bytes}
 use Rattle.cycle.proofs.Alike.{outputs-alike, verdict-alike, clocked-alike}
 use Rattle.cycle.proofs.Deciding.{same-or-not, there-or-not}
 use Rattle.cycle.proofs.Selections.{selection-length}
-use Rattle.lists.specs.Lists.{placesFrom, Put, atPins}
+use Rattle.lists.specs.Lists.{Put, atPins}
 use Rattle.lists.proofs.Placing.{places-selected, place-listed, not-listed, listed-places, listed-kind, clocked-listed}
 use Rattle.inverses.specs.Inverses.{Both}
 use Rattle.inverses.proofs.Places.{pin-place}

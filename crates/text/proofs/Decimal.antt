@@ -82,3 +82,22 @@ digits-most (suc most) n = by (ltb n 10) (digits-most most (n / 10))
 pub decimal-most : (n : ℕ) → length (decimal n) ≤ 20
 unfolding decimal
 decimal-most n = digits-most 20 n
+
+-- a number below a power of ten has no more digits than that power
+digits-few : (most d n : ℕ) → 1 ≤ d → n < 10 ^ d → length (digitsUpTo most n) ≤ d
+unfolding digitsUpTo
+digits-few zero d n some h = omega arith
+digits-few (suc most) zero n some h = absurd (omega arith)
+digits-few (suc most) (suc d) n some h = by (ltb n 10) refl (λ l. digits-few most d (n / 10) (more d h l) (omega (arith, power d)))
+  where
+    more : (d : ℕ) → n < 10 ^ suc d → 10 ≤ n → 1 ≤ d
+    more zero h l = absurd (omega (arith, power 0))
+    more (suc d) h l = omega arith
+    by : (b : Bool) → ltb n 10 ≡ b → (10 ≤ n → length (digitsUpTo most (n / 10)) ≤ d)
+        → length (cond b ((48 + n) ∷ []) (digitsUpTo most (n / 10) ++ ((48 + n % 10) ∷ []))) ≤ suc d
+    by true e rest = omega arith
+    by false e rest = omega (arith, rest (ltb-false n 10 e), length-append (digitsUpTo most (n / 10)) ((48 + n % 10) ∷ []))
+
+pub decimal-few : (d n : ℕ) → 1 ≤ d → n < 10 ^ d → length (decimal n) ≤ d
+unfolding decimal
+decimal-few d n some h = digits-few 20 d n some h

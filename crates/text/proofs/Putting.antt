@@ -98,3 +98,41 @@ module _ (d : List ℕ) (p : ℕ) (line : List ℕ) {n : ℕ} (counted : n ≡ l
 pub put-fits : (d : List ℕ) (p : ℕ) (line : List ℕ) → p + length line ≤ length d → put d p line ≡ did (sets d p line) (p + length line)
 unfolding put
 put-fits d p line h = rw (le-leb (p + length line) (length d) h)
+
+-- PART BY PART. A text is put into the buffer `begin` at place `at`, and some parts of it are left: put behind what stands, they give the whole
+abbrev pub joined : List (List ℕ) → List ℕ
+joined [] = []
+joined (xs ∷ parts) = xs ++ joined parts
+
+pub record Left (begin : List ℕ) (at : ℕ) (text buffer : List ℕ) (place : ℕ) (parts : List (List ℕ)) : Type 0 where
+  pub long : length buffer ≡ length begin
+  pub ends : place + length (joined parts) ≡ at + length text
+  pub is : sets buffer place (joined parts) ≡ sets begin at text
+
+module _ {begin : List ℕ} {at : ℕ} {text : List ℕ} where
+  -- all of it, as its parts
+  pub left-all : {parts : List (List ℕ)} → text ≡ joined parts → Left begin at text begin at parts
+  left-all e = record { long = refl; ends = rw e; is = rw e }
+
+  module _ {buffer : List ℕ} {place : ℕ} where
+    -- as other parts
+    pub left-as : {parts others : List (List ℕ)} → joined parts ≡ joined others → Left begin at text buffer place parts → Left begin at text buffer place others
+    left-as e l = record { long = l .long; ends = rw e at (l .ends); is = rw e at (l .is) }
+
+    -- nothing is left
+    pub left-none : Left begin at text buffer place [] → (buffer ≡ sets begin at text) × (place ≡ at + length text)
+    left-none l = (l .is, omega (arith, l .ends))
+
+    module _ {xs : List ℕ} {parts : List (List ℕ)} (l : Left begin at text buffer place (xs ∷ parts)) where
+      -- there is room for the next part where there was room for the text
+      pub left-room : at + length text ≤ length begin → place + length xs ≤ length buffer
+      left-room h = omega (arith, l .long, l .ends, length-append xs (joined parts))
+
+      -- the next part is put
+      pub left-then : {buffer′ : List ℕ} {place′ : ℕ} → buffer′ ≡ sets buffer place xs → place′ ≡ place + length xs → Left begin at text buffer′ place′ parts
+      left-then e f =
+          record {
+            long = ap length e ∙ length-sets buffer place xs ∙ l .long;
+            ends = omega (arith, f, l .ends, length-append xs (joined parts));
+            is = rw (e, f, sets-append buffer place xs (joined parts)) (l .is);
+          }

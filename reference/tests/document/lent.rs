@@ -2,7 +2,7 @@
 //!
 //! Each of these also sees to it that the refused call changed no lent byte.
 
-use reference::{check, double, power_up, run, static_power_up, static_run, step, Refusal};
+use reference::{check, double, page, power_up, run, static_power_up, static_run, step, Refusal};
 
 /// The answer of a call that turns back.
 pub fn refused<T>(number: u32, place: usize) -> Result<T, Refusal> {
@@ -83,5 +83,19 @@ pub fn static_run_refuses(
 pub fn double_refuses(image: &[u8], length: usize, number: u32, place: usize) {
     let mut lent = vec![77; length];
     assert_eq!(double(image, &mut lent), refused(number, place));
+    assert_eq!(lent, vec![77; length]);
+}
+
+/// Pages are refused and the page buffer is left, whose length is given here and
+/// whose bytes are 77.
+pub fn page_refuses(
+    image: &[u8],
+    k: usize,
+    (record, length): (&[u8], usize),
+    number: u32,
+    place: usize,
+) {
+    let mut lent = vec![77; length];
+    assert_eq!(page(image, k, record, &mut lent), refused(number, place));
     assert_eq!(lent, vec![77; length]);
 }

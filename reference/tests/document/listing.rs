@@ -1,8 +1,9 @@
 //! The listing as a function of an image and the input's bytes.
 
 use crate::images::*;
+use crate::inputs::{Pieces, Unread};
 use reference::listing;
-use std::io::{self, Read};
+use std::io::Read;
 
 /// The counter's listing in document 01.
 pub const COUNTER_LISTING: &str = "\
@@ -18,44 +19,6 @@ fn lines(image: &[u8], input: impl Read) -> String {
     let mut output = Vec::new();
     listing(image, input, &mut output).unwrap();
     String::from_utf8(output).unwrap()
-}
-
-/// An input that gives at most `piece` bytes in one read and, before each of
-/// them, one read that is interrupted.
-struct Pieces<'a> {
-    bytes: &'a [u8],
-    piece: usize,
-    interrupt: bool,
-}
-
-impl<'a> Pieces<'a> {
-    fn new(bytes: &'a [u8], piece: usize) -> Pieces<'a> {
-        Pieces {
-            bytes,
-            piece,
-            interrupt: true,
-        }
-    }
-}
-
-impl Read for Pieces<'_> {
-    fn read(&mut self, buffer: &mut [u8]) -> io::Result<usize> {
-        self.interrupt = !self.interrupt;
-        if !self.interrupt {
-            return Err(io::ErrorKind::Interrupted.into());
-        }
-        let length = self.piece.min(buffer.len());
-        self.bytes.read(&mut buffer[..length])
-    }
-}
-
-/// An input that must not be read.
-struct Unread;
-
-impl Read for Unread {
-    fn read(&mut self, _: &mut [u8]) -> io::Result<usize> {
-        panic!("the input was read");
-    }
 }
 
 #[test]

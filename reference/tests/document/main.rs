@@ -1,4 +1,4 @@
-//! Tests of the reference against document 01 and requests L1 to L5 of document
+//! Tests of the reference against document 01 and requests L1 to L6 of document
 //! 02.
 //!
 //! Every expected value is a line of these documents or is worked out by hand
@@ -17,6 +17,7 @@ mod exact_by_hand;
 mod exact_marks;
 mod gates;
 mod images;
+mod inputs;
 mod inverted_as_not;
 mod inverted_checking;
 mod inverted_cycles;
@@ -28,6 +29,11 @@ mod lent;
 mod limits;
 mod listing;
 mod order;
+mod page_examples;
+mod page_reading;
+mod page_refusals;
+mod page_wrong_readings;
+mod pages;
 mod pins;
 mod program;
 mod properties;

@@ -14,6 +14,7 @@ pub enum Call {
     Table,
     Awake,
     Unknown,
+    Write,
 }
 
 pub fn read_call(word: &str) -> Call {
@@ -28,16 +29,18 @@ pub fn read_call(word: &str) -> Call {
         "Table" => Call::Table,
         "Awake" => Call::Awake,
         "Unknown" => Call::Unknown,
+        "Write" => Call::Write,
         _ => panic!("no call: {word}"),
     }
 }
 
 impl Call {
-    /// A gate's kind, a run's cycles, and the net from which a doubled image is
-    /// printed are numbers. The other calls take none.
+    /// A gate's kind, the cycles of a run or of pages, and the net from which a
+    /// doubled image is printed are numbers. The other calls take none.
     pub fn takes_number(self) -> bool {
         match self {
-            Call::Gate | Call::Run | Call::Double | Call::Table | Call::Unknown => true,
+            Call::Gate | Call::Run | Call::Double => true,
+            Call::Table | Call::Unknown | Call::Write => true,
             Call::Check | Call::PowerUp | Call::Step | Call::Figures | Call::Awake => false,
         }
     }
@@ -52,6 +55,7 @@ impl Call {
                 &["image", "doubled", "state", "rows", "buffer"]
             }
             Call::Double => &["image", "doubled", "buffer"],
+            Call::Write => &["image", "doubled", "rows", "buffer"],
         }
     }
 }
@@ -77,6 +81,8 @@ fn a_call_may_have_all_that_it_takes() {
         "Awake image 1 doubled 9 state 0",
         "Unknown 1 image 1 doubled 9 state 0 rows 0 buffer 9",
         "Unknown image state rows buffer",
+        "Write 1 image 1 doubled 9 rows 0 buffer 9",
+        "Write image rows buffer",
     ] {
         assert!(is_read(call), "{call}");
     }
@@ -116,6 +122,11 @@ fn a_call_has_nothing_that_it_does_not_take() {
         "T 7 rows 3*4",
         "A image 1",
         "U 1 image 1",
+        "Write 1 image 1 state 0",
+        "Write 1 image 1 state",
+        "Write 1 image 1 record 0",
+        "Write 1 2 image 1",
+        "W 1 image 1",
     ] {
         assert!(!is_read(call), "{call}");
     }

@@ -1,13 +1,14 @@
 //! A case, executed with the calls of the reference.
 
 use super::calls::Call;
-use super::printing::{figures, image, lent, outcome, run_answer, step_answer, whether_changed};
+use super::printing::{figures, image, lent, outcome, run_answer, step_answer};
+use super::printing::{page_text, whether_changed};
 use super::reading::Case;
 use crate::codes::CODES;
 use crate::images::{AND, MUX, NOT, OR, OUT, XOR};
 use reference::{and_byte, mux_byte, not_byte, or_byte, xor_byte};
 use reference::{and_code, mux_code, not_code, or_code, xor_code};
-use reference::{check, double, doubled_size, power_up, run, step};
+use reference::{check, double, doubled_size, page, power_up, run, step};
 use reference::{static_power_up, static_run, FirstFlow, Refusal};
 use std::fmt::Write;
 
@@ -99,6 +100,17 @@ fn execute_double(case: &Case, page: &mut String) {
     }
 }
 
+/// The record is the list `rows`.
+fn execute_write(case: &Case, text: &mut String) {
+    let mut buffer = case.buffer.clone();
+    let answer = page(&source(case), case.number, &case.rows, &mut buffer);
+    outcome(text, answer);
+    match answer {
+        Ok(()) => page_text(text, &buffer),
+        Err(_) => whether_changed(text, &buffer),
+    }
+}
+
 /// Prints what a case prints behind its name.
 pub fn execute(case: &Case, page: &mut String) {
     match case.call {
@@ -112,5 +124,6 @@ pub fn execute(case: &Case, page: &mut String) {
         Call::Table => execute_gate(case, &CODES, gate_code, page),
         Call::Awake => execute_power_up(case, static_power_up, page),
         Call::Unknown => execute_run(case, static_run, page),
+        Call::Write => execute_write(case, page),
     }
 }

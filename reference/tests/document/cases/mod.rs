@@ -6,6 +6,7 @@ mod executing;
 mod printing;
 mod reading;
 mod static_calls;
+mod write;
 
 use executing::execute;
 use reading::{read_cases, Case};

@@ -93,3 +93,9 @@ pub fn whether_changed(page: &mut String, buffer: &[u8]) {
         page.push_str(", buffer changed");
     }
 }
+
+/// The text of pages, with a bar for the end of each line.
+pub fn page_text(page: &mut String, buffer: &[u8]) {
+    page.push_str(", page ");
+    page.push_str(&std::str::from_utf8(buffer).unwrap().replace('\n', "|"));
+}

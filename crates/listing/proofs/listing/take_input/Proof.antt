@@ -7,10 +7,13 @@ use lib.Dec.{ltb}
 use lib.ListN.{length, take}
 use borrow.Author.Needs.{needs}
 use borrow.Author.Tests.{ltb-true}
+use Rattle.checking.proofs.Checked.{check-none}
 use Rattle.cycle.specs.Calls.{PoweredUp}
+use Rattle.row_runs.specs.Taking.{AcceptedState}
 use Rattle.listing_output.specs.Printed.{Room}
+use Rattle.listing_cycles.specs.ByOutputs.{Outs}
 use Rattle.listing_cycles.proofs.Lines.{outs-few}
-use Rattle.listing_rows.specs.Taken.{Known, AcceptedState, held}
+use Rattle.listing_rows.specs.Taken.{Known, held}
 use Rattle.listing_rows.proofs.Taking.{goes-on}
 use Rattle.listing.proofs.Turns.{held-blank, powered-state, lists-from, neither-of, Came, came-begins, came-on, came-ends}
 use Rattle.listing.proofs.listing.take_input.Statement.{statement}
@@ -36,21 +39,29 @@ abbrev μ-loop : tie.MeasureT-loop
 
 -- what is there where the turns begin
 module _ (c : tie.After-power-up Inv-loop μ-loop) where
-  abbrev listed : tie.After-list-outs Inv-loop μ-loop
+  abbrev listed : tie.After-list-nets Inv-loop μ-loop
   listed = c .before .before .before .before
 
   abbrev begin : tie.Start Inv-loop μ-loop
   begin = listed .before .before .before .before .before .before .before .before
 
-  few : length (listed .list-outs .last .1 .0) ≤ length (begin .args .outputs .now)
-  few = let h = outs-few (listed .list-outs .ensures) in omega (arith, h, begin .pre .1 .0 .2)
+  outs : Outs (begin .args .image .now) (listed .list-nets .last .1 .1 .0)
+  outs = record { accepted = begin .pre .0 .0; listed = listed .list-nets .ensures }
+
+  few : length (listed .list-nets .last .1 .1 .0) ≤ length (begin .args .outputs .now)
+  few = let h = outs-few outs in omega (arith, h, begin .pre .1 .0 .2)
+
+list-nets-requires : tie.Need-list-nets-requires Inv-loop μ-loop
+list-nets-requires c κs =
+    let pre = c .before .before .before .before .before .before .before .pre in
+    (pre .0 .0, pre .1 .0 .0 ∙ check-none _ .0 (pre .0 .0) .outputs)
 
 loop-holds : tie.Need-loop-holds Inv-loop μ-loop
 loop-holds c =
     let first = c .begun .ensures in
     let up = c .before .before .before in
     let start = begin up in (
-      record { outs = listed up .list-outs .ensures; inputs = start .pre .0 .1; some = start .pre .0 .2 },
+      record { outs = outs up; inputs = start .pre .0 .1; some = start .pre .0 .2 },
       few up,
       refl,
       refl,
@@ -142,7 +153,7 @@ take-input-spec =
     (tie.spec
     Inv-loop
     μ-loop
-    (λ c κs. search needs)
+    list-nets-requires
     (λ c κs. search needs)
     (λ c κs. search needs)
     loop-holds

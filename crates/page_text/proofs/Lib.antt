@@ -1,0 +1,6 @@
+-- Laws of signs, blanks, lines and pages.
+pub mod Blanks
+pub mod Signs
+pub mod LineParts
+pub mod PageParts
+pub mod Pagewise

@@ -1,0 +1,2 @@
+-- The pages of a run's outputs.
+pub mod Pages

@@ -1,0 +1,42 @@
+-- Terms of the contract of the function that takes whole rows by a run. No public call's contract uses them.
+use Prim.Native.Nat.{ℕ, _*_, _≤_, _<_}
+use mathlib.Core.Path.{_≡_}
+use mathlib.Core.List.{List}
+use mathlib.Core.Option.{none}
+use lib.ListN.{length, take}
+use Rattle.image.specs.Image.{sizesOf, netsOf}
+use Rattle.refusals.specs.Refusals.{refusalIn, plainBytes, badByte}
+use Rattle.checking.specs.Check.{checkRefusal}
+use Rattle.cycle.specs.Cycle.{plain, Cycle, cyclesOf, outputsOf, stateAfter}
+use Rattle.cycle.specs.Calls.{stateLength}
+use Rattle.row_runs.specs.declared.running.RowsRun.{RowsRun}
+use Rattle.row_runs.specs.Rows.{rowRefusal, goodRows}
+
+-- a state that a run accepts: R bytes, each 0 to 3
+pub record AcceptedState (s st : List ℕ) : Type 0 where
+  pub size : length st ≡ stateLength (sizesOf s)
+  pub codes : badByte (plainBytes .bad) 11 0 st ≡ none
+
+-- an accepted image, i and o, its I and O, of which I is not 0, a state that a run accepts, k rows, and room for their output bytes
+pub record Lent (s : List ℕ) (i o k : ℕ) (st rows outputs : List ℕ) : Type 0 where
+  pub accepted : checkRefusal s ≡ none
+  pub inputs : i ≡ sizesOf s .inputs
+  pub some : 0 < i
+  pub each : o ≡ sizesOf s .outputs
+  pub state : AcceptedState s st
+  pub few : k ≤ 4096
+  pub row-bytes : length rows ≡ k * i
+  pub output-bytes : length outputs ≡ k * o
+
+-- the cycles of k rows of i bytes each
+abbrev pub cyclesOn : (s : List ℕ) (i k : ℕ) (rows st : List ℕ) → List Cycle
+cyclesOn s i k rows st = cyclesOf plain (netsOf s) i k rows st
+
+-- k rows were taken from the state st: those before the first bad one were run, and that one draws its refusal
+pub record RowsTaken (s : List ℕ) (i o k : ℕ) (st rows : List ℕ) (r : RowsRun) (after filled : List ℕ) : Type 0 where
+  pub good : r .good ≡ goodRows i k rows
+  pub few : r .good ≤ k
+  pub refusal : refusalIn (r .outcome) ≡ rowRefusal i k rows
+  pub state : after ≡ stateAfter st (cyclesOn s i (r .good) rows st)
+  pub accepts : AcceptedState s after
+  pub outputs : take (r .good * o) filled ≡ outputsOf (cyclesOn s i (r .good) rows st)
