@@ -4,10 +4,10 @@ use native.Mathlib.Omega.{arith}
 use native.Mathlib.Nat.{add-zero}
 use mathlib.Core.Path.{_≡_, refl, ap, _∙_}
 use mathlib.Core.Bool.{true, false}
-use mathlib.Core.List.{List, [], _∷_, _++_, map}
+use mathlib.Core.List.{List, [], _∷_, _++_, map, append-nil}
 use lib.Dec.{leb}
-use lib.ListN.{length, getD, set, drop, length-set, length-append}
-use lib.Seq.{sets, length-sets, drop-cons, drop-length}
+use lib.ListN.{length, getD, set, drop, drop-of-length-le, length-set, length-append}
+use lib.Seq.{sets, sets-eq, length-sets, drop-cons, drop-length}
 use borrow.Author.Tests.{leb-true, le-leb}
 use Rattle.text.specs.Put.{put, did}
 
@@ -58,6 +58,10 @@ puts-none d p = record { buffer = refl; place = omega arith }
 pub sets-append : (d : List ℕ) (p : ℕ) (xs ys : List ℕ) → sets (sets d p xs) (p + length xs) ys ≡ sets d p (xs ++ ys)
 sets-append d p [] ys = rw add-zero
 sets-append d p (x ∷ xs) ys = let e : p + suc (length xs) ≡ suc p + length xs = omega arith in rw e (sets-append (set d p x) (suc p) xs ys)
+
+-- a text as long as the buffer fills it
+pub sets-whole : (d xs : List ℕ) → length d ≡ length xs → sets d 0 xs ≡ xs
+sets-whole d xs h = sets-eq xs d 0 (omega arith) ∙ ap (λ l. xs ++ l) (drop-of-length-le d {i = 0 + length xs} (omega arith)) ∙ append-nil xs
 
 -- a line begins with a text
 pub data Begins (line : List ℕ) : List ℕ → Type 0 where
