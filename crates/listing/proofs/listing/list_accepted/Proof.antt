@@ -7,7 +7,8 @@ use borrow.Author.Needs.{needs}
 use Rattle.gates.specs.Kinds.{INPUT, REG, OUT}
 use Rattle.image.specs.declared.image.Sizes.{Sizes}
 use Rattle.checking.proofs.Checked.{Checked, check-none, few-of}
-use Rattle.listing.proofs.Buffers.{zeros-length, zeros-room, front-length, rows-most, row-room}
+use Rattle.text.proofs.Buffers.{zeros-length, zeros-room, front-length}
+use Rattle.listing.proofs.Buffers.{rows-most, row-room}
 use Rattle.listing.proofs.Listings.{blank-room, end-blank, end-only, listing-rows}
 use Rattle.listing.proofs.listing.list_accepted.Statement.{statement}
 use Rattle.listing.proofs.listing.list_accepted.Tie as tie
