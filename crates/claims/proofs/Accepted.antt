@@ -7,7 +7,7 @@ use mathlib.Core.List.{List, [], _∷_, Forall₂, Forall₂·nil, Forall₂·co
 use mathlib.Core.Option.{none}
 use mathlib.Core.Bool.{Bool, true, false, _&&_, _||_, not}
 use lib.Dec.{eqb, leb, lit≤}
-use lib.ListN.{getD}
+use lib.ListN.{length, getD}
 use borrow.Author.Tests.{leb-true, eqb-true, not-true, not-false, le-leb, eq-eqb}
 use Rattle.image.specs.declared.image.Net.{Net}
 use Rattle.image.specs.Image.{sizesOf, netsOf}
@@ -22,6 +22,8 @@ use Rattle.figures.proofs.Refusing.{size-none, size-given}
 use Rattle.doubling.proofs.Checks.{double-none}
 use Rattle.unknowns.specs.Filling.{noCode}
 use Rattle.static_run.proofs.StaticRefused.{AnyCode, static-power-up-none, static-none}
+use Rattle.page_text.specs.Pages.{pageCount, pagesLength}
+use Rattle.paging.proofs.PageCalls.{page-none}
 use Rattle.claims.specs.Accepted as claim
 use Rattle.claims.proofs.InTurn.{InTurn, none-drawn, none-given}
 
@@ -155,6 +157,11 @@ image r = checked _ .0 (r .image)
 rows-of : {s st : List ℕ} {n : ℕ} {rows : List ℕ} → Ready s st n rows → claim.AcceptedRows n rows
 rows-of r = record { size = r .size; codes = each (r .codes) }
 
+-- the length of the pages
+pub pages-bytes : (s : List ℕ) (k : ℕ) (buf : List ℕ) → (length buf ≡ pagesLength k (sizesOf s .outputs)) ↔ (length buf ≡ claim.pagesBytes s k)
+unfolding pagesLength pageCount
+pages-bytes s k buf = (λ h. h, λ h. h)
+
 pub when-accepted : claim.Accepted
 when-accepted =
     record {
@@ -204,5 +211,9 @@ when-accepted =
       double = λ s buf. (
         λ h. let t = double-none s buf .0 h in (checked s .0 (t .0), t .1, t .2),
         λ t. double-none s buf .1 (checked s .1 (t .0), t .1, t .2),
+      );
+      page = λ s k outputs buf. (
+        λ h. let t = page-none s k outputs buf .0 h in (check s .0 (t .0), t .1, record { codes = each (t .2); size = t .3 }, pages-bytes s k buf .0 (t .4)),
+        λ t. page-none s k outputs buf .1 (check s .1 (t .0), t .1, together outputs (t .2 .codes), t .2 .size, pages-bytes s k buf .1 (t .3)),
       );
     }

@@ -26,9 +26,12 @@ use Rattle.doubling.specs.Doubling.{doubleRefusal, doubleOf}
 use Rattle.doubling.proofs.Checks.{double-accepted, double-refused}
 use Rattle.unknowns.specs.Filling.{noCode}
 use Rattle.static_run.specs.StaticCalls.{staticBytes, staticPowerUpRefusal, staticPowerUpOf, staticRunRefusal, staticRunOf}
+use Rattle.page_text.specs.Pages.{pagesLength}
+use Rattle.paging.specs.Paging.{pageRefusal, pageOf}
+use Rattle.paging.proofs.PageCalls.{page-accepted, page-refused}
 use Rattle.static_run.proofs.StaticRefused.{code-none, static-power-up-accepted, static-power-up-refused, static-accepted, static-refused}
-use Rattle.claims.specs.Accepted.{Sized, NoneAbove3, OnlyCodes, AcceptedImage, AcceptedState, AcceptedStaticState}
-use Rattle.claims.specs.Refused.{AnyCall, check, power-up, step, run, static-power-up, static-run, doubled-size, double, Gives, BadNet, kind, pin, value, unlisted, BadImage, short, no-nets, many-nets, inexact, bad-net, miscounted, FirstAbove3, BadLent, state-size, state-byte, row-size, row-byte, buffer-size, FirstNoCode, BadStatic, static-state-size, static-state-byte, static-row-size, static-row-byte, static-buffer-size, Refused, bad-image, bad-state, bad-step, many-cycles, bad-run, bad-static-state, many-static-cycles, bad-static-run, size-large, doubled-large, doubled-length, Refusals}
+use Rattle.claims.specs.Accepted.{Sized, NoneAbove3, OnlyCodes, AcceptedImage, AcceptedState, AcceptedStaticState, AcceptedRecord}
+use Rattle.claims.specs.Refused.{AnyCall, check, power-up, step, run, static-power-up, static-run, doubled-size, double, page, Gives, BadNet, kind, pin, value, unlisted, BadImage, short, no-nets, many-nets, inexact, bad-net, miscounted, FirstAbove3, BadLent, state-size, state-byte, row-size, row-byte, buffer-size, FirstNoCode, BadStatic, static-state-size, static-state-byte, static-row-size, static-row-byte, static-buffer-size, Refused, bad-image, bad-state, bad-step, many-cycles, bad-run, bad-static-state, many-static-cycles, bad-static-run, size-large, doubled-large, doubled-length, many-page-cycles, record-byte, record-size, page-size, Refusals}
 use Rattle.claims.proofs.InTurn.{InTurn, given-first, first-given}
 use Rattle.claims.proofs.Accepted as accept
 use Rattle.claims.proofs.Unchanged.{not-refused, not-some}
@@ -259,6 +262,11 @@ behind s (static-run st k rows outputs) =
     refuse (ltb 4096 k) 9 0 then lentRefusal staticBytes (sizesOf s .registers) (k * sizesOf s .inputs) (k * sizesOf s .outputs) st rows outputs
 behind s doubled-size = refuse (ltb 8192 (doubledSize (netsOf s))) 15 0
 behind s (double buf) = refuse (ltb 8192 (doubledSize (netsOf s))) 15 0 then badLength 16 (8 + 7 * doubledSize (netsOf s)) buf
+behind s (page k outputs buf) =
+    refuse (ltb 4096 k) 9 0
+    then badByte (plainBytes .bad) 13 0 outputs
+    then badLength 14 (k * sizesOf s .outputs) outputs
+    then badLength 19 (pagesLength k (sizesOf s .outputs)) buf
 
 behind-tells : (s : List ℕ) (c : AnyCall) → AcceptedImage s → Tells (behind s c) (Refused s c)
 behind-tells s check a = record { given = λ e. absurd (not-some e) }
@@ -275,6 +283,14 @@ behind-tells s doubled-size a = line (ltb 8192 (doubledSize (netsOf s))) 15 0 (�
 behind-tells s (double buf) a =
     one-then (line (ltb 8192 (doubledSize (netsOf s))) 15 0 (λ e. doubled-large a (ltb-true _ _ e)))
     (λ b. length-tells 16 (8 + 7 * doubledSize (netsOf s)) buf (doubled-length a (simp accepted at b)))
+behind-tells s (page k outputs buf) a =
+    one-then (line (ltb 4096 k) 9 0 (λ e. many-page-cycles a (ltb-true _ _ e)))
+    (λ b. let few : k ≤ 4096 = simp accepted at b in
+    one-then (bytes-tell (ltb 3) 13 outputs (λ i w. record-byte a few (above-3 w)))
+    (λ c. let codes = accept.each (byte-none _ _ outputs .0 c) in
+    one-then (length-tells 14 (k * sizesOf s .outputs) outputs (record-size a few codes))
+    (λ d. length-tells 19 (pagesLength k (sizesOf s .outputs)) buf
+    (λ h. page-size a few (record { codes = codes; size = length-none _ _ outputs .0 d }) (λ e. h (accept.pages-bytes s k buf .1 e))))))
 
 call-tells : (s : List ℕ) (c : AnyCall) → Tells (checkRefusal s then behind s c) (Refused s c)
 call-tells s c = one-then (record { given = λ e. bad-image (image-tells s .given e) }) (λ e. behind-tells s c (accept.check s .0 e))
@@ -291,6 +307,17 @@ drawn {s} (bad-static-run {k = k} a l b) = rw (accept.check s .1 a, le-ltb 4096 
 drawn {s} (size-large a l) = rw (accept.check s .1 a, lt-ltb 8192 (doubledSize (netsOf s)) l)
 drawn {s} (doubled-large a l) = rw (accept.check s .1 a, lt-ltb 8192 (doubledSize (netsOf s)) l)
 drawn {s} (doubled-length {buf} a l h) = rw (accept.check s .1 a, le-ltb 8192 (doubledSize (netsOf s)) l, length-drawn 16 _ buf h)
+drawn {s} (many-page-cycles {k} a l) = rw (accept.check s .1 a, lt-ltb 4096 k l)
+drawn {s} (record-byte {k} {outputs} a l w) = rw (accept.check s .1 a, le-ltb 4096 k l, byte-drawn (ltb 3) 13 outputs (bad-3 w))
+drawn {s} (record-size {k} {outputs} a l c h) = rw (accept.check s .1 a, le-ltb 4096 k l, no-byte 13 outputs c, length-drawn 14 _ outputs h)
+drawn {s} (page-size {k} {outputs} {buf} a l r h) =
+    rw (
+      accept.check s .1 a,
+      le-ltb 4096 k l,
+      no-byte 13 outputs (r .codes),
+      length-none 14 _ outputs .1 (r .size),
+      length-drawn 19 _ buf (λ e. h (accept.pages-bytes s k buf .0 e)),
+    )
 
 -- an answer a, which give makes of a refusal, where the chain o decides
 by-chain : {A : Type 0} {r : Refusal} (o : Option Refusal) (a : A) (give : Refusal → A)
@@ -300,7 +327,7 @@ by-chain none a give n s i = (λ e. absurd (n refl e), λ h. absurd (not-some h)
 by-chain (some q) a give n s i = (λ e. ap some (i q (sym (s q refl) ∙ e)), λ h. s q refl ∙ ap give (same h))
 
 gives : (s : List ℕ) (c : AnyCall) (r : Refusal) → Gives s c r ↔ (checkRefusal s then behind s c ≡ some r)
-unfolding powerUpRefusal stepRefusal asStep runRefusal asRun staticPowerUpRefusal staticRunRefusal sizeRefusal doubleRefusal
+unfolding powerUpRefusal stepRefusal asStep runRefusal asRun staticPowerUpRefusal staticRunRefusal sizeRefusal doubleRefusal pageRefusal
 gives s check r = one (checkRefusal s)
   where
     one : (o : Option Refusal) → (o ≡ some r) ↔ (o then none ≡ some r)
@@ -327,6 +354,9 @@ gives s doubled-size r =
 gives s (double buf) r =
     by-chain (doubleRefusal s buf) (doubleOf s buf .refusal) some
     (λ e h. not-some (rw (double-accepted s buf e) at h)) (λ q e. rw (double-refused s buf q e)) (λ q. same)
+gives s (page k outputs buf) r =
+    by-chain (pageRefusal s k outputs buf) (pageOf s k outputs buf .refusal) some
+    (λ e h. not-some (rw (page-accepted s k outputs buf e) at h)) (λ q e. rw (page-refused s k outputs buf q e)) (λ q. same)
 
 pub refusals : Refusals
 refusals s c r = (λ h. call-tells s c .given (gives s c r .0 h), λ h. gives s c r .1 (drawn h))

@@ -10,6 +10,8 @@ use Rattle.doubling.specs.Doubling.{doubleRefusal}
 use Rattle.doubling.proofs.Checks.{double-accepted, double-refused}
 use Rattle.static_run.specs.StaticCalls.{staticPowerUpRefusal, staticRunRefusal}
 use Rattle.static_run.proofs.StaticRefused.{static-power-up-accepted, static-power-up-refused, static-accepted, static-refused}
+use Rattle.paging.specs.Paging.{pageRefusal}
+use Rattle.paging.proofs.PageCalls.{page-accepted, page-refused}
 use Rattle.claims.specs.Unchanged.{Unchanged}
 
 -- what is done is not refused
@@ -43,4 +45,8 @@ unchanged =
           (λ q e. rw (static-refused s st k rows outputs q e) (refl, refl));
       double = λ s buf r h.
           either-way (doubleRefusal s buf) (λ e. absurd (not-some (rw (double-accepted s buf e) at h))) (λ q e. rw (double-refused s buf q e));
+      page = λ s k outputs buf r h.
+          either-way (pageRefusal s k outputs buf)
+          (λ e. absurd (not-some (rw (page-accepted s k outputs buf e) at h)))
+          (λ q e. rw (page-refused s k outputs buf q e));
     }

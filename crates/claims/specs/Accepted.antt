@@ -1,6 +1,6 @@
--- When a call is accepted: exactly if its image is as document 01's "The image" asks, and K, the state, the rows and the buffer have the lengths and bytes that 9 to 16, and 18, ask for.
+-- When a call is accepted: exactly if its image is as document 01's "The image" asks, and K, the state, the rows and the buffer have the lengths and bytes that 9 to 16, 18 and 19 ask for.
 -- Which refusal is given otherwise is Refused. The kinds are 0 CONST, 1 INPUT, 2 REG, 3 NOT, 4 AND, 5 OR, 6 XOR, 7 MUX, 8 OUT.
-use Prim.Native.Nat.{ℕ, _+_, _*_, _≤_, _<_}
+use Prim.Native.Nat.{ℕ, _+_, _*_, _/_, _≤_, _<_}
 use mathlib.Core.Logic.{_↔_}
 use mathlib.Core.Path.{_≡_}
 use mathlib.Core.List.{List}
@@ -15,6 +15,7 @@ use Rattle.doubled.specs.Doubled.{doubledSize}
 use Rattle.figures.specs.Figures.{doubledSizeOf}
 use Rattle.doubling.specs.Doubling.{doubleRefusal}
 use Rattle.static_run.specs.StaticCalls.{staticPowerUpRefusal, staticRunRefusal}
+use Rattle.paging.specs.Paging.{pageRefusal}
 use Rattle.claims.specs.Reading.{netOf}
 
 -- 1 to 3 do not apply
@@ -96,6 +97,15 @@ pub record AcceptedStaticRows (n : ℕ) (rows : List ℕ) : Type 0 where
   pub size : length rows ≡ n
   pub codes : OnlyCodes rows
 
+-- of pages: neither 13 nor 14 applies to the record of k cycles, k × O bytes
+pub record AcceptedRecord (s : List ℕ) (k : ℕ) (outputs : List ℕ) : Type 0 where
+  pub codes : NoneAbove3 outputs
+  pub size : length outputs ≡ k * sizesOf s .outputs
+
+-- the length of the pages of k cycles: one for each 64 cycles and one for a rest, of 1 + O lines of 70 characters and a newline each
+abbrev pub pagesBytes : (s : List ℕ) (k : ℕ) → ℕ
+pagesBytes s k = (k + 63) / 64 * ((1 + sizesOf s .outputs) * 71)
+
 -- proved as `when-accepted`
 pub record Accepted : Type 0 where
   pub check : (s : List ℕ) → (checkRefusal s ≡ none) ↔ AcceptedImage s
@@ -112,3 +122,5 @@ pub record Accepted : Type 0 where
   pub doubled-size : (s : List ℕ) → (doubledSizeOf s .refusal ≡ none) ↔ (AcceptedImage s × (doubledSize (netsOf s) ≤ 8192))
   pub double : (s buf : List ℕ)
       → (doubleRefusal s buf ≡ none) ↔ (AcceptedImage s × (doubledSize (netsOf s) ≤ 8192) × (length buf ≡ 8 + 7 * doubledSize (netsOf s)))
+  pub page : (s : List ℕ) (k : ℕ) (outputs page : List ℕ)
+      → (pageRefusal s k outputs page ≡ none) ↔ (AcceptedImage s × (k ≤ 4096) × AcceptedRecord s k outputs × (length page ≡ pagesBytes s k))

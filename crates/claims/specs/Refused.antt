@@ -1,4 +1,4 @@
--- Which refusal each call gives: its number, its place, and the order of the conditions (document 01, "When a call turns back"; document 02, L4, for 18).
+-- Which refusal each call gives: its number, its place, and the order of the conditions (document 01, "When a call turns back"; document 02, L4, for 18, and L6 for pages).
 -- Each condition stands with what has to hold for it to be tried, so that of any call at most one of them holds; where none does, the call is accepted (Accepted).
 use Prim.Native.Nat.{ℕ, _+_, _*_, _≤_, _<_}
 use mathlib.Core.Logic.{_↔_, _⊎_}
@@ -15,8 +15,9 @@ use Rattle.doubled.specs.Doubled.{doubledSize}
 use Rattle.figures.specs.Figures.{doubledSizeOf}
 use Rattle.doubling.specs.Doubling.{doubleOf}
 use Rattle.static_run.specs.StaticCalls.{staticPowerUpOf, staticRunOf}
+use Rattle.paging.specs.Paging.{pageOf}
 use Rattle.claims.specs.Reading.{netOf}
-use Rattle.claims.specs.Accepted.{Sized, PinsBelow, ValuesListed, UnlistedZero, NetsAccepted, RightCounts, AcceptedImage, AcceptedState, AcceptedRows, AcceptedStaticState, AcceptedStaticRows}
+use Rattle.claims.specs.Accepted.{Sized, PinsBelow, ValuesListed, UnlistedZero, NetsAccepted, RightCounts, AcceptedImage, AcceptedState, AcceptedRows, AcceptedStaticState, AcceptedStaticRows, NoneAbove3, AcceptedRecord, pagesBytes}
 
 -- a call, with the state and the bytes that it is lent beside its image
 pub data AnyCall : Type 0 where
@@ -28,6 +29,7 @@ pub data AnyCall : Type 0 where
   static-run : (st : List ℕ) (k : ℕ) (rows outputs : List ℕ) → AnyCall
   doubled-size : AnyCall
   double : (buf : List ℕ) → AnyCall
+  page : (k : ℕ) (outputs page : List ℕ) → AnyCall
 
 -- the call on the image s gives the refusal r
 abbrev pub Gives : (s : List ℕ) → AnyCall → Refusal → Type 0
@@ -39,6 +41,7 @@ Gives s (static-power-up st) r = staticPowerUpOf s st .refusal ≡ some r
 Gives s (static-run st k rows outputs) r = staticRunOf s st k rows outputs .answer ≡ refused r
 Gives s doubled-size r = doubledSizeOf s .refusal ≡ some r
 Gives s (double buf) r = doubleOf s buf .refusal ≡ some r
+Gives s (page k outputs buf) r = pageOf s k outputs buf .refusal ≡ some r
 
 -- byte i of xs is the first above 3
 pub record FirstAbove3 (xs : List ℕ) (i : ℕ) : Type 0 where
@@ -120,6 +123,15 @@ module _ (s : List ℕ) where
     doubled-length :
         {buf : List ℕ} → AcceptedImage s → doubledSize (netsOf s) ≤ 8192 → (length buf ≡ 8 + 7 * doubledSize (netsOf s) → ⊥)
         → Refused (double buf) 16 0
+    -- 9, and then 13, 14 and 19: pages. The record's bytes are tried before its length
+    many-page-cycles : {k : ℕ} {outputs buf : List ℕ} → AcceptedImage s → 4096 < k → Refused (page k outputs buf) 9 0
+    record-byte : {k : ℕ} {outputs buf : List ℕ} {i : ℕ} → AcceptedImage s → k ≤ 4096 → FirstAbove3 outputs i → Refused (page k outputs buf) 13 i
+    record-size :
+        {k : ℕ} {outputs buf : List ℕ} → AcceptedImage s → k ≤ 4096 → NoneAbove3 outputs → (length outputs ≡ k * sizesOf s .outputs → ⊥)
+        → Refused (page k outputs buf) 14 0
+    page-size :
+        {k : ℕ} {outputs buf : List ℕ} → AcceptedImage s → k ≤ 4096 → AcceptedRecord s k outputs → (length buf ≡ pagesBytes s k → ⊥)
+        → Refused (page k outputs buf) 19 0
 
 -- "Given on the stated condition and otherwise never." Proved as `refusals`
 abbrev pub Refusals : Type 0

@@ -7,6 +7,7 @@ use Rattle.refusals.specs.declared.answer.Refusal.{Refusal}
 use Rattle.cycle.specs.Calls.{refused, powerUpOf, stepOf, runOf}
 use Rattle.doubling.specs.Doubling.{doubleOf}
 use Rattle.static_run.specs.StaticCalls.{staticPowerUpOf, staticRunOf}
+use Rattle.paging.specs.Paging.{pageOf}
 
 -- proved as `unchanged`
 pub record Unchanged : Type 0 where
@@ -22,3 +23,4 @@ pub record Unchanged : Type 0 where
       (s st : List ℕ) (k : ℕ) (rows outputs : List ℕ) (r : Refusal) → staticRunOf s st k rows outputs .answer ≡ refused r
       → (staticRunOf s st k rows outputs .state ≡ st) × (staticRunOf s st k rows outputs .outputs ≡ outputs)
   pub double : (s buf : List ℕ) (r : Refusal) → doubleOf s buf .refusal ≡ some r → doubleOf s buf .buffer ≡ buf
+  pub page : (s : List ℕ) (k : ℕ) (outputs buf : List ℕ) (r : Refusal) → pageOf s k outputs buf .refusal ≡ some r → pageOf s k outputs buf .page ≡ buf

@@ -30,7 +30,7 @@ pub fn read_more(fd: i32, buffer: &mut [u8], from: usize) -> Filled
 }
 
 // Reads until the buffer is full, the input ends or a read fails, which it does only where bytes are missing.
-fn fill(fd: i32, buffer: &mut [u8]) -> Filled
+pub fn fill(fd: i32, buffer: &mut [u8]) -> Filled
     ensures { λ r. ⌜ Counts (r .bytes) (now (buffer .exit)) ⌝ }
     ensures { λ r. ⌜ (r .failed ≡ true → r .bytes < length (now (buffer .exit))) ⌝ }
 {

@@ -107,7 +107,7 @@ row-of-bad i (suc k) m rows {r} l h =
         }
 
 -- THE CYCLES of some rows do not depend on the rows after them
-drop-part : (n m : ℕ) (xs : List ℕ) → drop n (take (n + m) xs) ≡ take m (drop n xs)
+pub drop-part : (n m : ℕ) (xs : List ℕ) → drop n (take (n + m) xs) ≡ take m (drop n xs)
 drop-part zero m xs = rw zero-add
 drop-part (suc n) m [] = rw (take-nil (suc n + m), take-nil m)
 drop-part (suc n) m (x ∷ xs) = rw suc-add (drop-part n m xs)

@@ -1,4 +1,5 @@
--- Laws of the first bad byte, of rows before the first bad one, and of the run that takes them.
+-- Laws of the first bad byte, of rows before the first bad one, of rows in two parts, and of the run that takes rows.
 pub mod FirstBad
 pub mod GoodRows
+pub mod Parting
 pub mod Answering

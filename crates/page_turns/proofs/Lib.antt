@@ -1,0 +1,3 @@
+-- Laws of the pages of rows, and of what a turn puts into the text.
+pub mod TextParts
+pub mod RowsPrinted

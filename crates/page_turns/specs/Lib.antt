@@ -1,0 +1,3 @@
+-- The pages of rows, and what one turn leaves.
+pub mod PagesOf
+pub mod Turns

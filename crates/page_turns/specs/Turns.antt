@@ -1,0 +1,61 @@
+-- One turn of the pages program, on the bytes that it read.
+use Prim.Native.Nat.{ℕ, _+_, _*_, _≤_, _<_, _^_}
+use mathlib.Core.Path.{_≡_}
+use mathlib.Core.List.{List}
+use mathlib.Core.Option.{none}
+use mathlib.Core.Bool.{Bool}
+use lib.Dec.{eqb}
+use lib.ListN.{length, take}
+use Rattle.image.specs.Image.{sizesOf}
+use Rattle.checking.specs.Check.{checkRefusal}
+use Rattle.cycle.specs.Cycle.{stateAfter}
+use Rattle.row_runs.specs.Taking.{AcceptedState, cyclesOn}
+use Rattle.page_turns.specs.declared.putting.Printed.{Printed}
+use Rattle.page_turns.specs.declared.turns.Progress.{Progress}
+use Rattle.page_turns.specs.PagesOf.{rowsTaken, outsOf, pagesFrom}
+
+-- what a turn leaves: the text that it prints, the state, the number of cycles, and whether another turn follows
+pub record Turn : Type 0 where
+  pub text : List ℕ
+  pub state : List ℕ
+  pub cycles : ℕ
+  pub goesOn : Bool
+
+-- a turn on at most 64 rows of i bytes each; another follows where 64 were taken
+unfoldable pub turnOf : (s : List ℕ) (i cycles : ℕ) (bytes st : List ℕ) → Turn
+turnOf s i cycles bytes st =
+    record {
+      text = pagesFrom s i cycles bytes st;
+      state = stateAfter st (cyclesOn s i (rowsTaken i bytes) bytes st);
+      cycles = cycles + rowsTaken i bytes;
+      goesOn = eqb (rowsTaken i bytes) 64;
+    }
+
+-- what the code holds of it
+abbrev pub left : (text state : List ℕ) → Progress → Turn
+left text state p = record { text = take (p .used) text; state = state; cycles = p .cycles; goesOn = p .open }
+
+-- what a turn asks: an accepted image, i, its I, which is not 0, and its OUTs; a state that a run accepts; room for the output bytes of 64 cycles, and for a page with one line more
+pub record Asks (s : List ℕ) (i : ℕ) (outs st outputs text : List ℕ) : Type 0 where
+  pub accepted : checkRefusal s ≡ none
+  pub inputs : i ≡ sizesOf s .inputs
+  pub some : 0 < i
+  pub listed : outs ≡ outsOf s
+  pub state : AcceptedState s st
+  pub output-bytes : 64 * length outs ≤ length outputs
+  pub room : (2 + length outs) * 71 ≤ length text
+
+-- some bytes of at most 64 rows were taken, and what is printed for them stands at the start of the text
+pub record Taken (s : List ℕ) (i first : ℕ) (bytes before after printed : List ℕ) (r : Printed) : Type 0 where
+  pub good : r .good ≡ rowsTaken i bytes
+  pub few : r .good ≤ 64
+  pub state : after ≡ stateAfter before (cyclesOn s i (rowsTaken i bytes) bytes before)
+  pub accepts : AcceptedState s after
+  pub text : take (r .used) printed ≡ pagesFrom s i first bytes before
+  pub within : r .used ≤ length printed
+
+-- a turn was made on the bytes that were read, and leaves a state that a run accepts
+pub record Turned (s : List ℕ) (i : ℕ) (before after rows text : List ℕ) (p q : Progress) : Type 0 where
+  pub is : left text after q ≡ turnOf s i (p .cycles) (take (q .read) rows) before
+  pub accepts : AcceptedState s after
+  pub few : q .read ≤ length rows
