@@ -4,3 +4,6 @@ pub mod Signs
 pub mod LineParts
 pub mod PageParts
 pub mod Pagewise
+pub mod Chars
+pub mod Places
+pub mod LineChars

@@ -3,10 +3,10 @@ use Prim.Native.Nat.{ℕ, zero, suc, _+_, _-_, _*_, _/_, _%_, _^_, _≤_, _<_}
 use native.Mathlib.Omega.{arith}
 use native.Mathlib.Nat.{pow-suc, pow-le-pow-right}
 use mathlib.Core.Path.{_≡_, refl}
-use mathlib.Core.List.{[], _∷_, _++_}
+use mathlib.Core.List.{List, [], _∷_, _++_}
 use mathlib.Core.Bool.{Bool, true, false, cond}
 use lib.Dec.{leb, ltb}
-use lib.ListN.{length, length-append}
+use lib.ListN.{length, getD, length-append}
 use borrow.Author.Tests.{leb-true, leb-false, ltb-true, ltb-false, lt-ltb}
 use Rattle.text.specs.Decimal.{digitsUpTo, decimal}
 use Rattle.io.specs.Digits.{glyph, digits, Fewest}
@@ -101,3 +101,25 @@ digits-few (suc most) (suc d) n some h = by (ltb n 10) refl (λ l. digits-few mo
 pub decimal-few : (d n : ℕ) → 1 ≤ d → n < 10 ^ d → length (decimal n) ≤ d
 unfolding decimal
 decimal-few d n some h = digits-few 20 d n some h
+
+-- each digit is a printed character
+digits-printed : (most n i : ℕ) → i < length (digitsUpTo most n) → 48 ≤ getD (digitsUpTo most n) i 0
+unfolding digitsUpTo
+digits-printed zero n i h = absurd (omega arith)
+digits-printed (suc most) n i h = by (ltb n 10) i h (digits-printed most (n / 10))
+  where
+    last : (xs : List ℕ) (d i : ℕ) → 48 ≤ d → i < length (xs ++ d ∷ []) → ((j : ℕ) → j < length xs → 48 ≤ getD xs j 0) → 48 ≤ getD (xs ++ d ∷ []) i 0
+    last [] d zero l h rest = l
+    last [] d (suc i) l h rest = absurd (omega arith)
+    last (x ∷ xs) d zero l h rest = rest 0 (omega arith)
+    last (x ∷ xs) d (suc i) l h rest = last xs d i l (omega arith) (λ j m. rest (suc j) (omega arith))
+    by : (b : Bool) (i : ℕ) → i < length (cond b ((48 + n) ∷ []) (digitsUpTo most (n / 10) ++ ((48 + n % 10) ∷ [])))
+        → ((j : ℕ) → j < length (digitsUpTo most (n / 10)) → 48 ≤ getD (digitsUpTo most (n / 10)) j 0)
+        → 48 ≤ getD (cond b ((48 + n) ∷ []) (digitsUpTo most (n / 10) ++ ((48 + n % 10) ∷ []))) i 0
+    by true zero h rest = omega arith
+    by true (suc i) h rest = absurd (omega arith)
+    by false i h rest = last (digitsUpTo most (n / 10)) (48 + n % 10) i (omega arith) h rest
+
+pub decimal-printed : (n i : ℕ) → i < length (decimal n) → 48 ≤ getD (decimal n) i 0
+unfolding decimal
+decimal-printed n i h = digits-printed 20 n i h
