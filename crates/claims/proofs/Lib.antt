@@ -39,4 +39,5 @@ pub mod StaticBytes
 pub mod StaticPlain
 pub mod Plainly
 pub mod Upright
+pub mod Page
 pub mod Promised

@@ -28,4 +28,5 @@ pub mod StaticBytes
 pub mod StaticPlain
 pub mod Plain
 pub mod Upright
+pub mod Page
 pub mod Promised

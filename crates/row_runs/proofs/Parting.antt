@@ -55,6 +55,22 @@ module _ (i : ℕ) where
           (rw (suc-add a b, n, ← drop-drop (a * i) i rows, suc-add) (row .0 ∙ ap suc (rest .0)), rw (suc-add a b, n, ← drop-drop (a * i) i rows) (row .1 ∙ rest .1))
       by (some r) e later = absurd (omega (arith, h, bad-row i a rows e .0))
 
+  -- of rows that are all good, the first are
+  pub good-first : (a b : ℕ) (rows : List ℕ) → goodRows i (a + b) rows ≡ a + b → goodRows i a rows ≡ a
+  good-first zero b rows h = unfold goodRows in refl
+  good-first (suc a) b rows h = by (badIn (take i rows)) refl (λ g. good-first a b (drop i rows) g)
+    where
+      n : suc a + b ≡ suc (a + b)
+      n = suc-add a b
+
+      by : (o : Option Refusal) → badIn (take i rows) ≡ o → (goodRows i (a + b) (drop i rows) ≡ a + b → goodRows i a (drop i rows) ≡ a) → goodRows i (suc a) rows ≡ suc a
+      by none e later =
+          let all : goodRows i (suc (a + b)) rows ≡ suc (a + b) = rw n at h in
+          good-row i a rows e .0 ∙ ap suc (later (omega (arith, all, good-row i (a + b) rows e .0)))
+      by (some r) e later =
+          let all : goodRows i (suc (a + b)) rows ≡ suc (a + b) = rw n at h in
+          absurd (omega (arith, all, bad-row i (a + b) rows e .0))
+
   -- where all are good, none draws a refusal
   pub none-bad : (k : ℕ) (rows : List ℕ) → goodRows i k rows ≡ k → rowRefusal i k rows ≡ none
   unfolding rowRefusal

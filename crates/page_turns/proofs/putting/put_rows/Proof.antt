@@ -73,15 +73,15 @@ put-rows-spec =
     (λ c. search needs)
     mul-end
     mul-filled
-    (λ c. ?)
-    (λ c. ?)
-    (λ c. ?)
-    (λ c κs. let pre = c .before .before .before .before .before .before .before .before .before .pre in rows-lent (pre .0) _ (pre .1))
+    (λ c. sym (length-take-le _ _ (ends (c .before .before .before .before .before .before .before .before))))
+    (λ c. fills (c .before .before .before .before .before .before .before .before))
+    (λ c. sym (length-take-le _ _ (fills (c .before .before .before .before .before .before .before .before .before))))
+    (λ c κs. let start = c .before .before .before .before .before .before .before .before .before in rows-lent (start .pre .0) (start .args .bytes .now) (start .pre .1))
     mul-shown
-    (λ c. ?)
-    (λ c. ?)
+    (λ c. shows (c .before .before .before .before .before))
+    (λ c. sym (length-take-le _ _ (shows (c .before .before .before .before .before .before))))
     put-cycles-requires
-    (λ c. ?)
+    (λ c. ends (c .before .before .before .before .before .before .before .before .before .before .before .before .before .before .before .before .before .before .before))
     (λ c κs. search needs)
     put-last-requires
     (λ c. search needs)

@@ -1,0 +1,2 @@
+-- Laws of the turns of the pages program.
+pub mod AllTurns

@@ -1,0 +1,2 @@
+-- What the pages program prints.
+pub mod Printed
