@@ -32,6 +32,7 @@ use Rattle.claims.proofs.StaticNets
 use Rattle.claims.proofs.StaticRuns
 use Rattle.claims.proofs.StaticBytes
 use Rattle.claims.proofs.StaticPlain
+use Rattle.claims.proofs.Page
 use Rattle.claims.proofs.Upright
 
 pub promised : Promised
@@ -85,5 +86,9 @@ promised =
       static-starts = StaticBytes.static-starts;
       static-plain = StaticPlain.static-plain;
       static-exact = Exact.static-exact;
+      page-shape = Page.page-shape;
+      page-heading = Page.page-heading;
+      page-net = Page.page-net;
+      page-sign = Page.page-sign;
       upright = Upright.upright;
     }

@@ -1,5 +1,5 @@
 -- All that is promised of the calls, as one record: read this first. Above each field stands what it means for a user; the statement itself is in the file that its
--- `use` line names. That the code does what these statements speak of (`checkRefusal`, `powerUpOf`, `stepOf`, `runOf`, `staticPowerUpOf`, `staticRunOf`, `doubledSizeOf`, `doubleOf`) is the contract of each call, in
+-- `use` line names. That the code does what these statements speak of (`checkRefusal`, `powerUpOf`, `stepOf`, `runOf`, `staticPowerUpOf`, `staticRunOf`, `doubledSizeOf`, `doubleOf`, `pageOf`) is the contract of each call, in
 -- src/ of its crate. The record is proved as `promised`, and used by the crate `exports`, field by field.
 use Rattle.gates.specs.Meaning.{GateValues, MarksExact, GatesMonotone, RelationsMean}
 use Rattle.unknowns.specs.StaticExactness.{StaticExact}
@@ -30,6 +30,7 @@ use Rattle.claims.specs.StaticNets.{StaticNetsAll}
 use Rattle.claims.specs.StaticRuns.{StaticSound, StaticWakes, StaticRuns}
 use Rattle.claims.specs.StaticBytes.{StaticClear, StaticPowerUpAll}
 use Rattle.claims.specs.StaticPlain.{StaticPlain}
+use Rattle.claims.specs.Page.{PageShape, PageHeading, PageNet, PageSign}
 use Rattle.claims.specs.Upright.{Uprights}
 
 pub record Promised : Type 0 where
@@ -132,5 +133,13 @@ pub record Promised : Type 0 where
   pub static-plain : StaticPlain
   -- At a gate no code that covers all fillings of its pins says more than the static rule.
   pub static-exact : StaticExact
+  -- PAGES (document 02, L6). An accepted call writes one page for each 64 cycles, and one for the rest: each is a heading line and a line per output, of 70 characters and a newline each.
+  pub page-shape : PageShape
+  -- The heading of a page has the word cycle and the number of its first cycle, set left.
+  pub page-heading : PageHeading
+  -- The line of an OUT begins with its net number, set right, and a blank; lines stand in net order.
+  pub page-net : PageNet
+  -- In the line of an output, on the page of a cycle, stands the sign of its byte in that cycle, in the cycle's column: 0, 1, and l, h for untrusted 0, 1. Behind the last cycle there are blanks.
+  pub page-sign : PageSign
   -- IMAGES WITHOUT INVERTED PINS (document 02, L3) give by every call what they gave before, and the doubled image of before; and all images that were accepted before are such.
   pub upright : Uprights

@@ -1,10 +1,11 @@
--- Every refusal that a call gives has a number from 1 to 18 and a place below 2^32.
-use Prim.Native.Nat.{ℕ, _^_, _≤_, _<_}
+-- Every refusal that a call gives has a number from 1 to 19, and a place below 2^32 where a record of pages has at most 2^32 bytes.
+use Prim.Native.Nat.{ℕ, _^_, _≤_, _<_, min}
 use native.Mathlib.Omega.{arith}
-use native.Mathlib.Nat.{mul-le-mul}
+use native.Mathlib.Nat.{mul-le-mul, min-le-right}
 use mathlib.Core.Path.{_≡_, refl}
 use mathlib.Core.List.{List}
 use mathlib.Core.Option.{Option, none, some}
+use lib.ListN.{length}
 use Rattle.image.specs.declared.image.Net.{Net}
 use Rattle.image.specs.Image.{sizesOf, netsOf}
 use Rattle.image.proofs.Nets.{count-most}
@@ -13,6 +14,7 @@ use Rattle.checking.specs.Check.{checkRefusal}
 use Rattle.cycle.specs.Calls.{powerUpOf}
 use Rattle.doubling.specs.Doubling.{doubleOf}
 use Rattle.static_run.specs.StaticCalls.{staticPowerUpOf}
+use Rattle.paging.specs.Paging.{pageOf}
 use Rattle.claims.specs.Accepted.{AcceptedImage}
 use Rattle.claims.specs.Refused as table
 use Rattle.claims.specs.Refused.{AnyCall, Gives, BadNet, BadImage, BadLent, BadStatic, Refused}
@@ -20,7 +22,7 @@ use Rattle.claims.proofs.Promised.{promised}
 
 pub record Tabled (number place : ℕ) : Type 0 where
   pub some-number : 1 ≤ number
-  pub most : number ≤ 18
+  pub most : number ≤ 19
   pub low : place < 2 ^ 32
 
 -- there are at most 8,192 registers, and as many inputs
@@ -44,7 +46,7 @@ bad-net (table.value h k m) l = record { some-number = omega arith; most = omega
 bad-net (table.unlisted h k m o) l = record { some-number = omega arith; most = omega arith; low = l }
 
 -- with place 0
-plain : {number : ℕ} → 1 ≤ number → number ≤ 18 → Tabled number 0
+plain : {number : ℕ} → 1 ≤ number → number ≤ 19 → Tabled number 0
 plain l m = record { some-number = l; most = m; low = omega arith }
 
 bad-image : {s : List ℕ} {number place : ℕ} → BadImage s number place → Tabled number place
@@ -71,21 +73,37 @@ bad-static f l (table.static-row-size h k) = plain (omega arith) (omega arith)
 bad-static f l (table.static-row-byte a e h) = record { some-number = omega arith; most = omega arith; low = omega (arith, h .below) }
 bad-static f l (table.static-buffer-size h k m) = plain (omega arith) (omega arith)
 
-refused-tabled : (s : List ℕ) {c : AnyCall} {number place : ℕ} → Refused s c number place → Tabled number place
-refused-tabled s (table.bad-image h) = bad-image h
-refused-tabled s (table.bad-state h k) = plain (omega arith) (omega arith)
-refused-tabled s (table.bad-step a h) = let f = few s a in bad-lent f (omega (arith, f .inputs)) h
-refused-tabled s (table.many-cycles h k) = plain (omega arith) (omega arith)
-refused-tabled s (table.bad-run a h k) = let f = few s a in bad-lent f (omega (arith, mul-le-mul h (f .inputs))) k
-refused-tabled s (table.bad-static-state h k) = plain (omega arith) (omega arith)
-refused-tabled s (table.many-static-cycles h k) = plain (omega arith) (omega arith)
-refused-tabled s (table.bad-static-run a h k) = let f = few s a in bad-static f (omega (arith, mul-le-mul h (f .inputs))) k
-refused-tabled s (table.doubled-large h k) = plain (omega arith) (omega arith)
-refused-tabled s (table.size-large h k) = plain (omega arith) (omega arith)
-refused-tabled s (table.doubled-length h k m) = plain (omega arith) (omega arith)
+-- the length of the record that a call is lent, which may be any number: only pages take one
+abbrev pub recordLength : AnyCall → ℕ
+recordLength table.check = 0
+recordLength (table.power-up st) = 0
+recordLength (table.step st row nets) = 0
+recordLength (table.run st k rows outputs) = 0
+recordLength (table.static-power-up st) = 0
+recordLength (table.static-run st k rows outputs) = 0
+recordLength table.doubled-size = 0
+recordLength (table.double buf) = 0
+recordLength (table.page k outputs buf) = length outputs
 
-pub tabled : (s : List ℕ) (c : AnyCall) (r : Refusal) → Gives s c r → Tabled (r .number) (r .place)
-tabled s c r h = refused-tabled s (promised .refusals s c r .0 h)
+refused-tabled : (s : List ℕ) {c : AnyCall} {number place : ℕ} → recordLength c ≤ 2 ^ 32 → Refused s c number place → Tabled number place
+refused-tabled s short (table.bad-image h) = bad-image h
+refused-tabled s short (table.bad-state h k) = plain (omega arith) (omega arith)
+refused-tabled s short (table.bad-step a h) = let f = few s a in bad-lent f (omega (arith, f .inputs)) h
+refused-tabled s short (table.many-cycles h k) = plain (omega arith) (omega arith)
+refused-tabled s short (table.bad-run a h k) = let f = few s a in bad-lent f (omega (arith, mul-le-mul h (f .inputs))) k
+refused-tabled s short (table.bad-static-state h k) = plain (omega arith) (omega arith)
+refused-tabled s short (table.many-static-cycles h k) = plain (omega arith) (omega arith)
+refused-tabled s short (table.bad-static-run a h k) = let f = few s a in bad-static f (omega (arith, mul-le-mul h (f .inputs))) k
+refused-tabled s short (table.doubled-large h k) = plain (omega arith) (omega arith)
+refused-tabled s short (table.size-large h k) = plain (omega arith) (omega arith)
+refused-tabled s short (table.doubled-length h k m) = plain (omega arith) (omega arith)
+refused-tabled s short (table.many-page-cycles h k) = plain (omega arith) (omega arith)
+refused-tabled s short (table.record-byte a h w) = record { some-number = omega arith; most = omega arith; low = omega (arith, w .below) }
+refused-tabled s short (table.record-size a h c k) = plain (omega arith) (omega arith)
+refused-tabled s short (table.page-size a h r k) = plain (omega arith) (omega arith)
+
+pub tabled : (s : List ℕ) (c : AnyCall) (r : Refusal) → recordLength c ≤ 2 ^ 32 → Gives s c r → Tabled (r .number) (r .place)
+tabled s c r short h = refused-tabled s short (promised .refusals s c r .0 h)
 
 -- the same of what a call without a result gives
 pub data Given : Option Refusal → Type 0 where
@@ -97,13 +115,41 @@ given none h = no
 given (some r) h = one (h r refl)
 
 pub check-given : (s : List ℕ) → Given (checkRefusal s)
-check-given s = given _ (λ r e. tabled s table.check r e)
+check-given s = given _ (λ r e. tabled s table.check r (omega arith) e)
 
 pub powered-up-given : (s st : List ℕ) → Given (powerUpOf s st .refusal)
-powered-up-given s st = given _ (λ r e. tabled s (table.power-up st) r e)
+powered-up-given s st = given _ (λ r e. tabled s (table.power-up st) r (omega arith) e)
 
 pub static-powered-up-given : (s st : List ℕ) → Given (staticPowerUpOf s st .refusal)
-static-powered-up-given s st = given _ (λ r e. tabled s (table.static-power-up st) r e)
+static-powered-up-given s st = given _ (λ r e. tabled s (table.static-power-up st) r (omega arith) e)
 
 pub doubled-given : (s buffer : List ℕ) → Given (doubleOf s buffer .refusal)
-doubled-given s buffer = given _ (λ r e. tabled s (table.double buffer) r e)
+doubled-given s buffer = given _ (λ r e. tabled s (table.double buffer) r (omega arith) e)
+
+-- of pages, with any record: a number of the table
+numbered : (s : List ℕ) {k : ℕ} {outputs buf : List ℕ} {number place : ℕ} → Refused s (table.page k outputs buf) number place → Tabled number 0
+numbered s (table.bad-image h) = let t = bad-image h in plain (t .some-number) (t .most)
+numbered s (table.many-page-cycles h k) = plain (omega arith) (omega arith)
+numbered s (table.record-byte a h w) = plain (omega arith) (omega arith)
+numbered s (table.record-size a h c k) = plain (omega arith) (omega arith)
+numbered s (table.page-size a h r k) = plain (omega arith) (omega arith)
+
+pub page-numbered : (s : List ℕ) (k : ℕ) (outputs buf : List ℕ) (r : Refusal) → pageOf s k outputs buf .refusal ≡ some r → Tabled (r .number) 0
+page-numbered s k outputs buf r h = numbered s (promised .refusals s (table.page k outputs buf) r .0 h)
+
+-- so its place, given up to 2^32 − 1, is below 2^32
+pub data PageGiven : Option Refusal → Type 0 where
+  wrote : PageGiven none
+  turned : {r : Refusal} → Tabled (r .number) (min (r .place) 4294967295) → PageGiven (some r)
+
+pub page-given : (s : List ℕ) (k : ℕ) (outputs buf : List ℕ) → PageGiven (pageOf s k outputs buf .refusal)
+page-given s k outputs buf = one (pageOf s k outputs buf .refusal) refl
+  where
+    one : (o : Option Refusal) → pageOf s k outputs buf .refusal ≡ o → PageGiven o
+    one none e = wrote
+    one (some r) e =
+        let t = page-numbered s k outputs buf r e in
+        turned {r = r} (record { some-number = t .some-number; most = t .most; low = omega (arith, min-le-right (r .place) 4294967295) })
+
+pub page-low : (s : List ℕ) (k : ℕ) (outputs buf : List ℕ) (r : Refusal) → length outputs ≤ 2 ^ 32 → pageOf s k outputs buf .refusal ≡ some r → r .place < 2 ^ 32
+page-low s k outputs buf r h e = tabled s (table.page k outputs buf) r h e .low

@@ -1,16 +1,18 @@
 -- What is read from the number of an answer is the answer.
-use Prim.Native.Nat.{ℕ, _/_, _%_, _^_, _≤_, _<_}
+use Prim.Native.Nat.{ℕ, _/_, _%_, _^_, _≤_, _<_, min}
 use native.Mathlib.Omega.{arith}
-use mathlib.Core.Path.{_≡_, refl, ap}
-use mathlib.Core.Option.{Option}
+use native.Mathlib.Nat.{min-eq-left}
+use mathlib.Core.Path.{_≡_, refl, ap, _∙_}
+use mathlib.Core.Option.{Option, none, some}
 use mathlib.Core.Bool.{cond}
 use borrow.Author.Tests.{lt-ltb, le-ltb, ne-eqb}
 use Rattle.refusals.specs.declared.answer.Refusal.{Refusal}
 use Rattle.cycle.specs.Cycle.{Verdict, clear, flow, FirstFlow}
 use Rattle.cycle.specs.Calls.{Answer, done}
-use Rattle.codes.specs.Codes.{refusalCode, outcomeCode, verdictCode, firstFlowCode, answerCode}
-use Rattle.codes.specs.Readings.{refusalRead, outcomeRead, verdictRead, stepRead, firstFlowRead, runRead, figureRead, CodesRead}
-use Rattle.codes.proofs.Given.{Tabled, Given, no, one, check-given, powered-up-given, static-powered-up-given, doubled-given}
+use Rattle.paging.specs.Paging.{pageOf}
+use Rattle.codes.specs.Codes.{refusalCode, lowPlace, outcomeCode, pageCode, verdictCode, firstFlowCode, answerCode}
+use Rattle.codes.specs.Readings.{refusalRead, outcomeRead, lowPlaces, verdictRead, stepRead, firstFlowRead, runRead, figureRead, CodesRead}
+use Rattle.codes.proofs.Given.{Tabled, Given, no, one, check-given, powered-up-given, static-powered-up-given, doubled-given, PageGiven, wrote, turned, page-given, page-low}
 use Rattle.codes.proofs.Small.{Naming, no-net, names, Among, Answered, gave, turned-back, step-answered, run-answered, static-run-answered, size-answered, kind-answered, naming-small, among-small}
 
 -- a refusal: its number is not below 2^32, and is taken apart
@@ -26,6 +28,15 @@ refusal-read {r} t =
 outcome-read : {p : Option Refusal} → Given p → outcomeRead (outcomeCode p) ≡ p
 outcome-read no = refl
 outcome-read (one {r} t) = rw (le-ltb (refusalCode r) (2 ^ 32) (large t), refusal-read t)
+
+-- pages
+page-read : {p : Option Refusal} → PageGiven p → outcomeRead (pageCode p) ≡ lowPlaces p
+page-read wrote = refl
+page-read (turned {r} t) = rw (le-ltb (refusalCode (lowPlace r)) (2 ^ 32) (large {r = lowPlace r} t), refusal-read {r = lowPlace r} t)
+
+low-as-it-is : (p : Option Refusal) → ((r : Refusal) → p ≡ some r → r .place < 2 ^ 32) → lowPlaces p ≡ p
+low-as-it-is none h = refl
+low-as-it-is (some r) h = let e : min (r .place) 4294967295 ≡ r .place = min-eq-left (omega (arith, h r refl)) in rw e
 
 -- a verdict
 verdict-read : {v : Verdict} → Naming 8192 v → verdictRead (verdictCode v) ≡ v
@@ -85,6 +96,8 @@ reads =
       doubled-size = λ s. figure-read (size-answered s);
       doubled-kind = λ s k. figure-read (kind-answered s k);
       double = λ s buffer. outcome-read (doubled-given s buffer);
+      page = λ s k outputs buf. page-read (page-given s k outputs buf);
+      page-exact = λ s k outputs buf h. page-read (page-given s k outputs buf) ∙ low-as-it-is (pageOf s k outputs buf .refusal) (λ r e. page-low s k outputs buf r h e);
       refusal-is = λ r. refl;
       clear-is = refl;
       flow-is = λ net. refl;

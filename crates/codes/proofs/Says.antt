@@ -29,10 +29,10 @@ use Rattle.claims.proofs.Unchanged.{not-refused}
 use Rattle.claims.proofs.Taken.{powered, run-taken, static-run-taken}
 use Rattle.claims.proofs.ClearRun.{cycles-length}
 use Rattle.claims.proofs.Promised.{promised}
-use Rattle.codes.specs.Codes.{outcomeCode, verdictCode, firstFlowCode, answerCode, sizeCode, kindCode}
+use Rattle.codes.specs.Codes.{outcomeCode, verdictCode, firstFlowCode, answerCode, sizeCode, kindCode, pageCode}
 use Rattle.codes.specs.Readings.{outcomeRead, stepRead, runRead}
 use Rattle.codes.specs.Says.{NumbersSay}
-use Rattle.codes.proofs.Given.{tabled}
+use Rattle.codes.proofs.Given.{tabled, PageGiven, wrote, turned, page-given}
 use Rattle.codes.proofs.Small.{Answered, gave, turned-back, step-answered, run-answered, static-run-answered, few-nets, naming-small, among-small}
 use Rattle.codes.proofs.Readings.{reads}
 
@@ -44,6 +44,15 @@ record Turned {A : Type 0} (no : Refusal → A) (a : A) : Type 0 where
 turned-outcome : (o : Option Refusal) → 2 ^ 32 ≤ outcomeCode o → Turned some o
 turned-outcome none h = absurd (omega arith)
 turned-outcome (some r) h = record { refusal = r; is = refl }
+
+turned-pages : (o : Option Refusal) → 2 ^ 32 ≤ pageCode o → Turned some o
+turned-pages none h = absurd (omega arith)
+turned-pages (some r) h = record { refusal = r; is = refl }
+
+-- pages that are written
+pages-written : {o : Option Refusal} → PageGiven o → pageCode o ≡ 0 → o ≡ none
+pages-written wrote h = refl
+pages-written (turned t) h = absurd (omega (arith, t .some-number))
 
 turned-answer : {A : Type 0} {P : A → Type 0} (code : A → ℕ) {a : Answer A} → ((x : A) → P x → code x < 2 ^ 32) → Answered P a
     → 2 ^ 32 ≤ answerCode code a → Turned refused a
@@ -138,7 +147,7 @@ module _ (s buf : List ℕ) where
       let w : doubleOf s buf .refusal ≡ none = promised .turns-back-alike s buf ∙ rw e (length-none 16 _ buf .1 fits) in
       (ap outcomeCode w, rw e (sym (promised .figures-written s buf w .nets)))
   size-is (some r) e h l =
-      let t = tabled s table.doubled-size r e in
+      let t = tabled s table.doubled-size r (omega arith) e in
       absurd (let below = rw e at h in omega (arith, t .some-number))
 
   size-turned : (k : ℕ) (o : Option Refusal) → doubledSizeOf s .refusal ≡ o → 2 ^ 32 ≤ sizeCode (doubledSizeOf s)
@@ -173,6 +182,10 @@ says =
           let t = turned-answer firstFlowCode among-small (static-run-answered s st k rows outputs) h in
           promised .unchanged .static-run s st k rows outputs (t .refusal) (t .is);
       double-kept = λ s buf h. let t = turned-outcome _ h in promised .unchanged .double s buf (t .refusal) (t .is);
+      page-kept = λ s k outputs buf h. let t = turned-pages _ h in promised .unchanged .page s k outputs buf (t .refusal) (t .is);
+      page-written = λ s k outputs buf h.
+          let w = pages-written (page-given s k outputs buf) h in
+          (promised .page-shape s k outputs buf w, λ c j l m. promised .page-sign s k outputs buf w c j l m);
       doubled-size = λ s buf h l. size-is s buf _ refl h l;
       doubled-turned = λ s buf k. size-turned s buf k _ refl;
       doubled-kind = λ s buf k l h. kind-is s buf k l (is-done s buf h);

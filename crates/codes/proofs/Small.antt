@@ -24,8 +24,8 @@ use Rattle.claims.specs.Refused as table
 use Rattle.claims.specs.Verdicts as judged
 use Rattle.claims.specs.Verdicts.{Judged, lowest}
 use Rattle.claims.proofs.Promised.{promised}
-use Rattle.codes.specs.Codes.{refusalCode, outcomeCode, verdictCode, firstFlowCode, figureAnswer, answerCode}
-use Rattle.codes.proofs.Given.{Tabled, tabled, Given, no, one}
+use Rattle.codes.specs.Codes.{refusalCode, outcomeCode, pageCode, verdictCode, firstFlowCode, figureAnswer, answerCode}
+use Rattle.codes.proofs.Given.{Tabled, tabled, Given, no, one, PageGiven, wrote, turned}
 
 -- a verdict on n nets is clear, or names one of them, behind net 0
 pub data Naming (n : ℕ) : Verdict → Type 0 where
@@ -80,7 +80,7 @@ step-answered s st row nets =
     (λ h.
     let a = promised .when-accepted .step s st row nets .0 h .0 in
     rw (step-accepted s st row nets h) (gave (cycleOf plain (netsOf s) row st .verdict) (verdict-names gateByte s a row st)))
-    (λ r h. let e = step-refused s st row nets r h in rw e (turned-back (tabled s (table.step st row nets) r (rw e))))
+    (λ r h. let e = step-refused s st row nets r h in rw e (turned-back (tabled s (table.step st row nets) r (omega arith) (rw e))))
 
 pub run-answered : (s st : List ℕ) (k : ℕ) (rows outputs : List ℕ) → Answered (Among 4096 8192) (runOf s st k rows outputs .answer)
 unfolding asRun
@@ -91,7 +91,7 @@ run-answered s st k rows outputs =
     let a = flow-among gateByte s (n .0) (sizesOf s .inputs) k 0 rows st in
     rw (run-accepted s st k rows outputs h)
     (gave (firstFlow 0 (cyclesOf plain (netsOf s) (sizesOf s .inputs) k rows st)) (record { cycle = omega (arith, a .cycle, n .1); verdict = a .verdict })))
-    (λ r h. let e = run-refused s st k rows outputs r h in rw e (turned-back (tabled s (table.run st k rows outputs) r (rw e))))
+    (λ r h. let e = run-refused s st k rows outputs r h in rw e (turned-back (tabled s (table.run st k rows outputs) r (omega arith) (rw e))))
 
 pub static-run-answered : (s st : List ℕ) (k : ℕ) (rows outputs : List ℕ) → Answered (Among 4096 8192) (staticRunOf s st k rows outputs .answer)
 unfolding asRun
@@ -102,7 +102,7 @@ static-run-answered s st k rows outputs =
     let a = flow-among staticByte s (n .0) (sizesOf s .inputs) k 0 rows st in
     rw (static-accepted s st k rows outputs h)
     (gave (firstFlow 0 (cyclesOf static (netsOf s) (sizesOf s .inputs) k rows st)) (record { cycle = omega (arith, a .cycle, n .1); verdict = a .verdict })))
-    (λ r h. let e = static-refused s st k rows outputs r h in rw e (turned-back (tabled s (table.static-run st k rows outputs) r (rw e))))
+    (λ r h. let e = static-refused s st k rows outputs r h in rw e (turned-back (tabled s (table.static-run st k rows outputs) r (omega arith) (rw e))))
 
 -- THE FIGURES of the doubled netlist
 figure-answered : (s : List ℕ) (figure : ℕ) → (sizeRefusal s ≡ none → figure ≤ 8192) → Answered (λ n. n ≤ 8192) (figureAnswer (doubledSizeOf s .refusal) figure)
@@ -110,7 +110,7 @@ figure-answered s figure few =
     rw (size-given s)
     (either-way (sizeRefusal s)
     (λ e. rw e (gave figure (few e)))
-    (λ r e. rw e (turned-back (tabled s table.doubled-size r (size-given s ∙ e)))))
+    (λ r e. rw e (turned-back (tabled s table.doubled-size r (omega arith) (size-given s ∙ e)))))
 
 pub few-nets : (s : List ℕ) → sizeRefusal s ≡ none → doubledSizeOf s .nets ≤ 8192
 few-nets s e = rw (size-accepted s e) (size-none s .0 e .1)
@@ -130,6 +130,10 @@ refusal-fits t = omega (arith, t .most, t .low)
 pub outcome-fits : {p : Option Refusal} → Given p → outcomeCode p < 2 ^ 64
 outcome-fits no = omega arith
 outcome-fits (one t) = refusal-fits t
+
+pub page-fits : {p : Option Refusal} → PageGiven p → pageCode p < 2 ^ 64
+page-fits wrote = omega arith
+page-fits (turned t) = omega (arith, t .most, t .low)
 
 pub naming-small : (v : Verdict) → Naming 8192 v → verdictCode v < 65536
 naming-small clear h = omega arith

@@ -1,8 +1,9 @@
 -- Every answer as one number. Of the answers that calls give, the refusals are exactly those with a number of 2^32 or more; Readings.antt says how each is read back.
-use Prim.Native.Nat.{ℕ, _+_, _*_, _^_}
+use Prim.Native.Nat.{ℕ, _+_, _*_, _^_, min}
 use mathlib.Core.Option.{Option, none, some}
 use lib.ListN.{getD}
 use Rattle.refusals.specs.declared.answer.Refusal.{Refusal}
+use Rattle.refusals.specs.Refusals.{refusal}
 use Rattle.cycle.specs.Cycle.{Verdict, clear, flow, FirstFlow}
 use Rattle.cycle.specs.Calls.{Answer, done, refused}
 use Rattle.figures.specs.Figures.{Figures}
@@ -15,6 +16,14 @@ refusalCode r = r .number * 2 ^ 32 + r .place
 abbrev pub outcomeCode : Option Refusal → ℕ
 outcomeCode none = 0
 outcomeCode (some r) = refusalCode r
+
+-- pages: 0 where they are written. The record's bytes are tried whatever its length, so the place of a 13 may be any number: from 2^32 − 1 on it is given as 2^32 − 1
+abbrev pub lowPlace : Refusal → Refusal
+lowPlace r = refusal (r .number) (min (r .place) 4294967295)
+
+abbrev pub pageCode : Option Refusal → ℕ
+pageCode none = 0
+pageCode (some r) = refusalCode (lowPlace r)
 
 -- a verdict: 65,535 for clear, which is no net's number, and its net for a flow
 abbrev pub verdictCode : Verdict → ℕ

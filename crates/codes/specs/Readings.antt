@@ -5,7 +5,7 @@ use mathlib.Core.List.{List}
 use mathlib.Core.Option.{Option, none, some}
 use mathlib.Core.Bool.{cond}
 use lib.Dec.{eqb, ltb}
-use lib.ListN.{getD}
+use lib.ListN.{length, getD}
 use Rattle.refusals.specs.declared.answer.Refusal.{Refusal}
 use Rattle.refusals.specs.Refusals.{refusal}
 use Rattle.checking.specs.Check.{checkRefusal}
@@ -14,7 +14,8 @@ use Rattle.cycle.specs.Calls.{Answer, done, refused, powerUpOf, stepOf, runOf}
 use Rattle.figures.specs.Figures.{doubledSizeOf}
 use Rattle.doubling.specs.Doubling.{doubleOf}
 use Rattle.static_run.specs.StaticCalls.{staticPowerUpOf, staticRunOf}
-use Rattle.codes.specs.Codes.{refusalCode, outcomeCode, verdictCode, firstFlowCode, figureAnswer, answerCode, sizeCode, kindCode}
+use Rattle.paging.specs.Paging.{pageOf}
+use Rattle.codes.specs.Codes.{refusalCode, lowPlace, outcomeCode, pageCode, verdictCode, firstFlowCode, figureAnswer, answerCode, sizeCode, kindCode}
 
 -- a refusal: its number stands above its place
 abbrev pub refusalRead : ℕ → Refusal
@@ -23,6 +24,11 @@ refusalRead n = refusal (n / 2 ^ 32) (n % 2 ^ 32)
 -- check, power-up and doubling: a number below 2^32 says that the call is done
 abbrev pub outcomeRead : ℕ → Option Refusal
 outcomeRead n = cond (ltb n (2 ^ 32)) none (some (refusalRead n))
+
+-- the refusal that is read from the number of pages: its place is given up to 2^32 − 1
+abbrev pub lowPlaces : Option Refusal → Option Refusal
+lowPlaces none = none
+lowPlaces (some r) = some (lowPlace r)
 
 -- a verdict: 65,535 is clear, and every other number a flow at that net
 abbrev pub verdictRead : ℕ → Verdict
@@ -60,6 +66,11 @@ pub record CodesRead : Type 0 where
   pub doubled-kind :
       (s : List ℕ) (k : ℕ) → figureRead (kindCode (doubledSizeOf s) k) ≡ figureAnswer (doubledSizeOf s .refusal) (getD (doubledSizeOf s .kinds) k 0)
   pub double : (s buffer : List ℕ) → outcomeRead (outcomeCode (doubleOf s buffer .refusal)) ≡ doubleOf s buffer .refusal
+  -- pages: the refusal with its number, and with its place where that is below 2^32, as it is in every record of at most 2^32 bytes
+  pub page : (s : List ℕ) (k : ℕ) (outputs buf : List ℕ) → outcomeRead (pageCode (pageOf s k outputs buf .refusal)) ≡ lowPlaces (pageOf s k outputs buf .refusal)
+  pub page-exact :
+      (s : List ℕ) (k : ℕ) (outputs buf : List ℕ) → length outputs ≤ 2 ^ 32
+      → outcomeRead (pageCode (pageOf s k outputs buf .refusal)) ≡ pageOf s k outputs buf .refusal
   -- the numbers themselves: a refusal's number stands above its place, clear is 65,535, a flow its net, and a run's cycle stands above its verdict
   pub refusal-is : (r : Refusal) → refusalCode r ≡ r .number * 2 ^ 32 + r .place
   pub clear-is : verdictCode clear ≡ 65535

@@ -5,11 +5,11 @@ use cycle::Verdict;
 use refusals::Outcome;
 use refusals::Refusal;
 ghost use mathlib.Core.Path.{_≡_};
-ghost use Prim.Native.Nat.{_^_, _<_};
+ghost use Prim.Native.Nat.{_^_, _<_, min};
 ghost use lib.ListN.{getD};
 ghost use Rattle.refusals.specs.Refusals.{refusalIn};
 ghost use Rattle.cycle.specs.Answers.{verdictIn, stepAnswerIn, runAnswerIn};
-ghost use Rattle.codes.specs.Codes.{refusalCode, outcomeCode, verdictCode, firstFlowCode, figureAnswer, answerCode};
+ghost use Rattle.codes.specs.Codes.{refusalCode, outcomeCode, pageCode, verdictCode, firstFlowCode, figureAnswer, answerCode};
 
 // The refusal's number × 2^32 + its place.
 fn refusal_code(r: Refusal) -> u64
@@ -37,6 +37,30 @@ pub fn outcome_code(o: Outcome) -> u64
     match o {
         Outcome::Done => 0,
         Outcome::Refused(r) => refusal_code(r),
+    }
+}
+
+// A place, or 2^32 − 1 where that is less.
+fn low(place: usize) -> usize
+    ensures { λ r. ⌜ r ≡ min place 4294967295 ⌝ }
+{
+    if place < 4294967295 { place } else { 4294967295 }
+}
+
+// 0 for pages that are written, or the refusal, whose place is given up to 2^32 − 1.
+pub fn page_code(o: Outcome) -> u64
+    requires { ⌜ pageCode (refusalIn o) < 2 ^ 64 ⌝ }
+    ensures { λ c. ⌜ c ≡ pageCode (refusalIn o) ⌝ }
+{
+    match o {
+        Outcome::Done => 0,
+        Outcome::Refused(r) => {
+            let place = low(r.place);
+            refusal_code(Refusal {
+                number: r.number,
+                place,
+            })
+        }
     }
 }
 

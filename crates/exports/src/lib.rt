@@ -2,6 +2,7 @@
 use codes::figure_code;
 use codes::kind_code;
 use codes::outcome_code;
+use codes::page_code;
 use codes::run_code;
 use codes::step_code;
 ghost use mathlib.Core.Path.{_≡_};
@@ -10,7 +11,8 @@ ghost use Rattle.cycle.specs.Calls.{powerUpOf, stepOf, runOf};
 ghost use Rattle.static_run.specs.StaticCalls.{staticPowerUpOf, staticRunOf};
 ghost use Rattle.figures.specs.Figures.{doubledSizeOf};
 ghost use Rattle.doubling.specs.Doubling.{doubleOf};
-ghost use Rattle.codes.specs.Codes.{outcomeCode, verdictCode, firstFlowCode, answerCode, sizeCode, kindCode};
+ghost use Rattle.paging.specs.Paging.{pageOf};
+ghost use Rattle.codes.specs.Codes.{outcomeCode, pageCode, verdictCode, firstFlowCode, answerCode, sizeCode, kindCode};
 
 // Whether an image is accepted.
 #[no_mangle]
@@ -115,4 +117,14 @@ pub extern "C" fn tracker_double(image: &[u8], buffer: &mut [u8]) -> u64
 {
     let o = doubling::double(image, buffer);
     outcome_code(o)
+}
+
+// The pages of a run's outputs.
+#[no_mangle]
+pub extern "C" fn tracker_page(image: &[u8], k: usize, outputs: &[u8], page: &mut [u8]) -> u64
+    ensures { λ r. ⌜ r ≡ pageCode (pageOf (now (image .entry)) k (now (outputs .entry)) (now (page .entry)) .refusal) ⌝ }
+    ensures { λ r. ⌜ now (page .exit) ≡ pageOf (now (image .entry)) k (now (outputs .entry)) (now (page .entry)) .page ⌝ }
+{
+    let o = paging::page(image, k, outputs, page);
+    page_code(o)
 }

@@ -36,12 +36,15 @@ refusal-put d at r room e =
     let place = ap (λ (x : Put). x .place) f in
     (buffer, (place, omega (arith, place, size, room, ap length buffer, length-sets d at (refusedLine r))))
 
--- TWO TEXTS at the start of a buffer
+-- ONE TEXT at the start of a buffer, and two
+pub one-put : (d xs : List ℕ) {d′ : List ℕ} {p : ℕ} → d′ ≡ sets d 0 xs → p ≡ 0 + length xs → p ≤ length d′ → take p d′ ≡ xs
+one-put d xs {p = p} e f room =
+    let few : 0 + length xs ≤ length d = omega (arith, room, f, ap length e, length-sets d 0 xs) in
+    rw (e, sets-eq xs d 0 few) (take-at xs (drop (0 + length xs) d) p (omega (arith, f)))
+
 pub both-put : (d xs ys : List ℕ) {d′ d″ : List ℕ} {p q : ℕ} → d′ ≡ sets d 0 xs → p ≡ length xs → d″ ≡ sets d′ p ys → q ≡ p + length ys → q ≤ length d″
     → take q d″ ≡ xs ++ ys
-both-put d xs ys {d″ = d″} {q = q} e f g h room =
+both-put d xs ys {d″ = d″} e f g h room =
     let n : 0 + length xs ≡ length xs = omega arith in
-    let size = length-append xs ys in
     let all : d″ ≡ sets d 0 (xs ++ ys) = g ∙ rw (e, f, ← n) (sets-append d 0 xs ys) in
-    let few : 0 + length (xs ++ ys) ≤ length d = omega (arith, room, h, f, size, ap length all, length-sets d 0 (xs ++ ys)) in
-    rw (all, sets-eq (xs ++ ys) d 0 few) (take-at (xs ++ ys) (drop (0 + length (xs ++ ys)) d) q (omega (arith, h, f, size)))
+    one-put d (xs ++ ys) all (omega (arith, h, f, length-append xs ys)) room

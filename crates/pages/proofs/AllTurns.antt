@@ -3,7 +3,7 @@ use Prim.Native.Nat.{ℕ, suc, _+_, _*_, _/_, _≤_, _<_}
 use native.Mathlib.Nat.{zero-add, zero-mul, add-mul, one-mul, le-div-iff-mul-le, div-lt-iff-lt-mul}
 use native.Mathlib.Omega.{arith}
 use mathlib.Core.Path.{_≡_, refl, sym, ap, _∙_}
-use mathlib.Core.Bool.{Bool, true, false, _||_}
+use mathlib.Core.Bool.{Bool, true, false, _&&_, _||_, not}
 use mathlib.Core.List.{List, [], _++_, append-nil}
 use mathlib.Core.Option.{none, some}
 use lib.Dec.{eqb}
@@ -12,18 +12,23 @@ use lib.Seq.{sets, length-take-le, drop-at}
 use borrow.Author.Tests.{eqb-true, ne-eqb}
 use Rattle.image.specs.Image.{sizesOf, netsOf}
 use Rattle.refusals.specs.declared.answer.Refusal.{Refusal}
+use Rattle.refusals.specs.declared.answer.Outcome.{Outcome}
 use Rattle.checking.specs.Check.{checkRefusal}
+use Rattle.checking.proofs.Checked.{check-none}
 use Rattle.cycle.specs.Cycle.{plain, cyclesOf, outputsOf, stateAfter}
-use Rattle.cycle.specs.Calls.{starts}
+use Rattle.cycle.specs.Answers.{poweredUp}
+use Rattle.cycle.specs.Calls.{stateLength, starts, PoweredUp, powerUpOf}
+use Rattle.cycle.proofs.Calls.{starts-state, powered-up}
 use Rattle.row_runs.specs.Rows.{goodRows}
-use Rattle.row_runs.specs.Taking.{cyclesOn}
+use Rattle.row_runs.specs.Taking.{AcceptedState, cyclesOn}
 use Rattle.row_runs.proofs.GoodRows.{good-few}
+use Rattle.row_runs.proofs.Answering.{accepted-state}
 use Rattle.row_runs.proofs.Parting.{good-split, cycles-split, state-append}
 use Rattle.listing_text.specs.Lines.{refusedLine}
 use Rattle.page_text.specs.Pages.{pagesText}
 use Rattle.page_turns.specs.declared.turns.Progress.{Progress}
 use Rattle.page_turns.specs.PagesOf.{rowsTaken, outsOf, pagesFrom}
-use Rattle.page_turns.specs.Turns.{Turn, turnOf, Turned}
+use Rattle.page_turns.specs.Turns.{Turn, turnOf, Asks, Turned}
 use Rattle.page_turns.proofs.PageByPage.{good-append, cycles-append, pages-after}
 use Rattle.pages.specs.Printed.{pagesPrinted, fullPages, PagesPrinted}
 
@@ -153,3 +158,48 @@ module _ {s : List ℕ} (accepted : checkRefusal s ≡ none) (pos : 0 < sizesOf 
 
 pub came-begins : {s st text : List ℕ} (p : Progress) → st ≡ starts (netsOf s) → p .cycles ≡ 0 → p .open ≡ true → Came s 0 st text p
 came-begins {s} p e c o = record { going = λ h. rw (e, c) (sofar-begins s); ended = λ h. let z : _≡_ {A = ℕ} 0 1 = cc (o, h) in absurd (omega arith) }
+
+-- IN THE LOOP: what the next turn asks, and how far the turns came
+pub record Holds (s : List ℕ) (i : ℕ) (outs st outputs text : List ℕ) (n : ℕ) (p : Progress) : Type 0 where
+  pub asks : Asks s i outs st outputs text
+  pub came : Came s n st text p
+
+pub holds-on : {s : List ℕ} {i : ℕ} {outs before outputs text : List ℕ} {n : ℕ} {p : Progress} {after outputs′ rows text′ : List ℕ} {q : Progress}
+    → Holds s i outs before outputs text n p → p .open ≡ true → Turned s i before after rows text′ p q
+    → length rows ≡ 64 * i → length outputs′ ≡ length outputs → length text′ ≡ length text → Holds s i outs after outputs′ text′ (n + 1) q
+holds-on {s} h going t rows outputs text =
+    let a = h .asks in
+    let e = a .inputs in
+    record {
+      asks =
+          record {
+            accepted = a .accepted;
+            inputs = e;
+            some = a .some;
+            listed = a .listed;
+            state = t .accepts;
+            output-bytes = omega (arith, a .output-bytes, outputs);
+            room = omega (arith, a .room, text);
+          };
+      came = came-on (a .accepted) (rw e at (a .some)) (h .came .going going) (rw e at t) (rw e at rows);
+    }
+
+pub holds-few : {s : List ℕ} {i : ℕ} {outs st outputs text : List ℕ} {n : ℕ} {p : Progress} → Holds s i outs st outputs text n p → p .open ≡ true → p .cycles ≡ n * 64
+holds-few h going = h .came .going going .cycles-are
+
+-- power-up
+pub powered : (s before : List ℕ) {after : List ℕ} (o : Outcome) → checkRefusal s ≡ none → length before ≡ stateLength (sizesOf s) → poweredUp o after ≡ powerUpOf s before → after ≡ starts (netsOf s)
+powered s before o accepted size e = ap (λ (x : PoweredUp). x .state) (e ∙ powered-up s before (check-none s .0 accepted) size)
+
+pub starts-accepted : {s st : List ℕ} → checkRefusal s ≡ none → st ≡ starts (netsOf s) → AcceptedState s st
+starts-accepted {s} accepted e = rw e (accepted-state (starts-state (check-none s .0 accepted)))
+
+-- TESTS: turns go on without a failure, and a third test; neither of two
+pub goes-on : (p q r : Bool) → ((p && not q) && r) ≡ true → (p ≡ true) × (q ≡ false) × (r ≡ true)
+goes-on true false r h = (refl, refl, h)
+goes-on true true r h = (cc, cc, cc)
+goes-on false q r h = (cc, cc, cc)
+
+pub neither-of : (p q : Bool) → (p || q) ≡ false → (p ≡ false) × (q ≡ false)
+neither-of false q h = (refl, h)
+neither-of true q h = (cc, cc)
