@@ -7,6 +7,7 @@ use cases_text::list;
 use cases_text::say;
 use cases_text::say_bytes;
 use cases_text::say_image;
+use cases_text::say_lines;
 use cases_text::say_number;
 use cases_text::say_whether_changed;
 use cases_text::within;
@@ -83,7 +84,20 @@ fn double(image: &[u8], d: &mut [u8], from: usize) {
     }
 }
 
-// The answer of a call. K is a run's number of cycles, the first net that is printed of a doubled image, or a gate's kind.
+// Pages: their text, or whether the buffer stayed as it was.
+fn write(image: &[u8], k: usize, outputs: &[u8], page: &mut [u8]) {
+    let o = paging::page(image, k, outputs, page);
+    outcome(o);
+    match o {
+        Outcome::Done => {
+            say(b", page ");
+            say_lines(page);
+        }
+        Outcome::Refused(_) => say_whether_changed(page),
+    }
+}
+
+// The answer of a call. K is the number of cycles of a run or of pages, the first net that is printed of a doubled image, or a gate's kind.
 fn answer(letter: u8, k: usize, image: &[u8], state: &mut [u8], rows: &[u8], buffer: &mut [u8]) {
     match letter {
         b'G' => gate(k, rows),
@@ -96,6 +110,7 @@ fn answer(letter: u8, k: usize, image: &[u8], state: &mut [u8], rows: &[u8], buf
         b'U' => run_answer(static_run::static_run(image, k, state, rows, buffer)),
         b'D' => double(image, buffer, k),
         b'F' => doubled_size(figures::doubled_size(image)),
+        b'W' => write(image, k, rows, buffer),
         _ => say(b" [no such call]"),
     }
 }

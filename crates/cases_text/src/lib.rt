@@ -14,6 +14,7 @@ pub use numbers::Numeral;
 pub use numbers::number;
 pub use print::say;
 pub use print::say_bytes;
+pub use print::say_lines;
 pub use print::say_number;
 pub use print::say_text;
 pub use text::byte_at;

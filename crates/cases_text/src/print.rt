@@ -39,6 +39,19 @@ pub fn say_bytes(name: &[u8], s: &[u8]) {
     }
 }
 
+// The text of some lines, with | for the end of each.
+pub fn say_lines(s: &[u8]) {
+    let mut i: usize = 0;
+    while i < s.len() {
+        if s[i] == b'\n' {
+            say(b"|");
+        } else {
+            say_text(s, i, i + 1);
+        }
+        i += 1;
+    }
+}
+
 // The text from one place to before another.
 pub fn say_text(t: &[u8], from: usize, end: usize) {
     if end <= t.len() {
