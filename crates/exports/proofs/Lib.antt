@@ -5,3 +5,4 @@ pub mod HeldRuns
 pub mod HeldExact
 pub mod HeldBefore
 pub mod HeldStatic
+pub mod HeldPages
