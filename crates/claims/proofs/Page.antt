@@ -79,6 +79,7 @@ module _ (s : List ℕ) (image : Checked s) (k : ℕ) (outputs : List ℕ) where
       last : (p l : ℕ) → getD (pageLine (64 * p) (min 64 (k - 64 * p)) (outsOf s) (drop (64 * p * o) outputs) l) 70 0 ≡ 10
       last p zero = chars.heading-newline (64 * p)
       last p (suc j) = chars.out-newline (getD (outsOf s) j 0) (shown p j) (outs-numbers image j) (shown-few p j)
+
       above : (p l i : ℕ) → i < 70 → 32 ≤ getD (pageLine (64 * p) (min 64 (k - 64 * p)) (outsOf s) (drop (64 * p * o) outputs) l) i 0
       above p zero i h = chars.heading-printed (64 * p) i h
       above p (suc j) i h = chars.out-printed (getD (outsOf s) j 0) (shown p j) (outs-numbers image j) (shown-few p j) i h

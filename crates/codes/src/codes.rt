@@ -44,7 +44,11 @@ pub fn outcome_code(o: Outcome) -> u64
 fn low(place: usize) -> usize
     ensures { λ r. ⌜ r ≡ min place 4294967295 ⌝ }
 {
-    if place < 4294967295 { place } else { 4294967295 }
+    if place < 4294967295 {
+        place
+    } else {
+        4294967295
+    }
 }
 
 // 0 for pages that are written, or the refusal, whose place is given up to 2^32 − 1.

@@ -93,6 +93,7 @@ module _ (s : List ℕ) (k : ℕ) (outputs : List ℕ) (a : AcceptedImage s) (r 
       small m =
           let e : (c + 1) * o ≤ k * o = mul-le-mul (omega arith) (omega arith) in
           r .codes (c * o + j) (omega (arith, r .size, add-mul c 1 o, one-mul o))
+
       by : (b : ℕ) → byteAt s k outputs x c j ≡ b → byteAt s k outputs x c j ≤ 3 → c < k
           → getD x (lineAt s k outputs x (c / 64) (1 + j) + (6 + c % 64)) 0 ≡ getD y (lineAt s k outputs y (c / 64) (1 + j) + (6 + c % 64)) 0
       by zero e q m = f .sign c j h l .trusted-0 m e ∙ sym (g .sign c j h l .trusted-0 m e)

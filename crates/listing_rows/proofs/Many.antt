@@ -2,7 +2,7 @@
 use Prim.Native.Nat.{ℕ, _*_, _≤_}
 use native.Mathlib.Nat.{mul-le-mul}
 use native.Mathlib.Omega.{arith}
-use mathlib.Core.Path.{_≡_, refl, sym, ap, _∙_}
+use mathlib.Core.Path.{_≡_, refl, _∙_}
 use mathlib.Core.Bool.{true}
 use mathlib.Core.List.{List}
 use mathlib.Core.Option.{none, some}
@@ -15,7 +15,7 @@ use Rattle.row_runs.specs.Taking.{Lent, cyclesOn, RowsTaken}
 use Rattle.row_runs.proofs.Answering.{is-state}
 use Rattle.listing_text.specs.Lines.{refusedLine}
 use Rattle.listing_output.specs.declared.output.Progress.{Progress}
-use Rattle.listing_output.specs.Printed.{Printed, printed, withLast, Grown}
+use Rattle.listing_output.specs.Printed.{printed, withLast, Grown}
 use Rattle.listing_output.proofs.Printing.{last-leaves}
 use Rattle.listing_cycles.specs.ByOutputs.{withLines}
 use Rattle.listing_cycles.proofs.Lines.{outs-length}

@@ -69,6 +69,7 @@ module _ (first : ℕ) where
       word (suc (suc (suc zero))) h = omega arith
       word (suc (suc (suc (suc zero)))) h = omega arith
       word (suc (suc (suc (suc (suc i))))) h = absurd (omega arith)
+
       by-end : (j : ℕ) → j < 64 → 32 ≤ getD (heading first) (6 + j) 0
       by-end j l =
           ⊎-elim
@@ -144,6 +145,7 @@ module _ (net : ℕ) (bytes : List ℕ) (few : net < 100000) (page : length byte
           let digit : 32 ≤ getD (outputLine net bytes) (5 - n + (i - (5 - n))) 0 = rw (out-number (i - (5 - n)) inside) (omega (arith, decimal-printed net (i - (5 - n)) inside)) in
           rw e at digit)
           (below-or-not i (5 - n))
+
       in-signs : (j : ℕ) → j < 64 → 32 ≤ getD (outputLine net bytes) (6 + j) 0
       in-signs j l =
           ⊎-elim

@@ -28,14 +28,7 @@ pub fn put_blanks(page: &mut [u8], at: usize, columns: usize) -> usize
 }
 
 // One sign per cycle: those of output j in n cycles, of o bytes each.
-pub fn put_signs(
-    page: &mut [u8],
-    at: usize,
-    o: usize,
-    j: usize,
-    n: usize,
-    bytes: &[u8],
-) -> usize
+pub fn put_signs(page: &mut [u8], at: usize, o: usize, j: usize, n: usize, bytes: &[u8]) -> usize
     requires { ⌜ (j < o) × (o ≤ 8192) × (n ≤ 64) × (n * o ≤ length (now bytes)) × (at + n ≤ length (now page)) ⌝ }
     ensures { λ r. ⌜ now (page .exit) ≡ sets (now (page .entry)) at (map sign (outputBytes o j n (now (bytes .entry)))) ⌝ }
     ensures { λ r. ⌜ r ≡ at + length (map sign (outputBytes o j n (now (bytes .entry)))) ⌝ }

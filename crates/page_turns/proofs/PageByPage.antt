@@ -1,10 +1,10 @@
 -- Page by page: what is printed for bytes that begin with 64 good rows is the page of these, and then what is printed for the others.
 use Prim.Native.Nat.{ℕ, zero, suc, _+_, _-_, _*_, _/_, _%_, _≤_, _<_, min}
-use native.Mathlib.Nat.{zero-add, add-zero, zero-mul, add-mul, suc-mul, min-eq-left, mul-add-div-right, mul-add-mod-self-right}
+use native.Mathlib.Nat.{add-zero, zero-mul, add-mul, suc-mul, min-eq-left, mul-add-div-right, mul-add-mod-self-right}
 use native.Mathlib.Omega.{arith}
 use mathlib.Core.Path.{_≡_, refl, sym, ap, _∙_}
 use mathlib.Core.List.{List, [], _∷_, _++_, append-assoc}
-use lib.ListN.{length, getD, take, drop, List·getD-append, length-drop, length-append}
+use lib.ListN.{length, drop, List·getD-append, length-drop, length-append}
 use lib.Seq.{drop-append-le, drop-at, take-append-le}
 use Rattle.gates.specs.Kinds.{OUT}
 use Rattle.image.specs.Image.{netsOf}
@@ -12,12 +12,12 @@ use Rattle.cycle.specs.Cycle.{plain, cyclesOf, outputsOf, stateAfter}
 use Rattle.cycle.proofs.Runs.{outputs-of-length}
 use Rattle.cycle.proofs.Selections.{selection-length}
 use Rattle.lists.proofs.Placing.{places-selected}
-use Rattle.row_runs.specs.Rows.{rowRefusal, goodRows}
+use Rattle.row_runs.specs.Rows.{goodRows}
 use Rattle.row_runs.specs.Taking.{cyclesOn}
 use Rattle.row_runs.proofs.Parting.{good-take, good-split, good-first, cycles-split, cycles-front, outputs-append, state-append}
-use Rattle.page_text.specs.Pages.{heading, outputBytes, outputLine, outputLines, pageText, pagesText, pageCount}
+use Rattle.page_text.specs.Pages.{outputBytes, outputLines, pageText, pagesText}
 use Rattle.page_text.proofs.Pagewise.{pages-next}
-use Rattle.page_turns.specs.PagesOf.{rowsTaken, rowsRefusal, lastLine, outsOf, cyclePages, pagesFrom}
+use Rattle.page_turns.specs.PagesOf.{rowsTaken, rowsRefusal, outsOf, cyclePages, pagesFrom}
 
 -- A PAGE of n cycles does not depend on the bytes after theirs
 output-front : (o j n : ℕ) (xs ys : List ℕ) → j < o → n * o ≤ length xs → outputBytes o j n (xs ++ ys) ≡ outputBytes o j n xs

@@ -1,8 +1,8 @@
 -- What is printed for the bytes of at most 64 rows, as the code has it: the rows among them are run, and what they give is put into the text.
-use Prim.Native.Nat.{ℕ, _+_, _-_, _*_, _/_, _%_, _≤_, _<_}
+use Prim.Native.Nat.{ℕ, _+_, _-_, _*_, _/_, _≤_, _<_}
 use native.Mathlib.Nat.{mul-le-mul, div-mul-le-self, div-lt-iff-lt-mul, mod-eq-sub-div-mul, add-mul, one-mul}
 use native.Mathlib.Omega.{arith}
-use mathlib.Core.Path.{_≡_, refl, sym, ap, _∙_}
+use mathlib.Core.Path.{_≡_, sym, ap, _∙_}
 use mathlib.Core.Bool.{not}
 use mathlib.Core.List.{List, _++_}
 use lib.Dec.{eqb}
@@ -13,15 +13,14 @@ use Rattle.image.specs.Image.{sizesOf, netsOf}
 use Rattle.refusals.specs.declared.answer.Outcome.{Outcome}
 use Rattle.refusals.specs.Refusals.{refuse, _then_, refusalIn}
 use Rattle.checking.proofs.Checked.{check-none, few-of}
-use Rattle.cycle.specs.Cycle.{plain, outputsOf, stateAfter}
+use Rattle.cycle.specs.Cycle.{plain, outputsOf}
 use Rattle.cycle.proofs.Selections.{selection-length}
 use Rattle.lists.proofs.Placing.{places-selected}
 use Rattle.row_runs.specs.declared.running.RowsRun.{RowsRun}
-use Rattle.row_runs.specs.Rows.{goodRows}
 use Rattle.row_runs.specs.Taking.{Lent, cyclesOn, RowsTaken}
 use Rattle.row_runs.proofs.Parting.{good-take, cycles-front}
 use Rattle.page_text.specs.Pages.{pagesText, pageCount}
-use Rattle.page_turns.specs.PagesOf.{rowsTaken, rowsRefusal, lastLine, outsOf, cyclePages, pagesFrom}
+use Rattle.page_turns.specs.PagesOf.{rowsTaken, rowsRefusal, lastLine, cyclePages, pagesFrom}
 use Rattle.page_turns.specs.Turns.{Asks, Taken}
 use Rattle.page_turns.proofs.TextParts.{both-put}
 

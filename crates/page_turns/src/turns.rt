@@ -59,10 +59,21 @@ pub fn take_turn(
         };
     }
     let read = got.bytes;
-    let did = put_rows(image, outs, inputs, state, outputs, &rows[..read], p.cycles, text);
+    let first = p.cycles;
+    let did = put_rows(
+        image,
+        outs,
+        inputs,
+        state,
+        outputs,
+        &rows[..read],
+        first,
+        text,
+    );
     let failed = write_text(text, did.used);
+    let cycles = first + did.good as u64;
     Progress {
-        cycles: p.cycles + did.good as u64,
+        cycles,
         read,
         used: did.used,
         open: did.good == ON_PAGE,

@@ -1,21 +1,20 @@
 -- All turns of the pages program: what they print together is what is printed for the whole input.
-use Prim.Native.Nat.{ℕ, suc, _+_, _*_, _/_, _≤_, _<_}
-use native.Mathlib.Nat.{zero-add, zero-mul, add-mul, one-mul, le-div-iff-mul-le, div-lt-iff-lt-mul}
+use Prim.Native.Nat.{ℕ, _+_, _*_, _/_, _≤_, _<_}
+use native.Mathlib.Nat.{zero-mul, add-mul, one-mul, le-div-iff-mul-le, div-lt-iff-lt-mul}
 use native.Mathlib.Omega.{arith}
 use mathlib.Core.Path.{_≡_, refl, sym, ap, _∙_}
 use mathlib.Core.Bool.{Bool, true, false, _&&_, _||_, not}
-use mathlib.Core.List.{List, [], _++_, append-nil}
+use mathlib.Core.List.{List, [], _++_}
 use mathlib.Core.Option.{none, some}
-use lib.Dec.{eqb}
 use lib.ListN.{length, take, drop, length-append}
-use lib.Seq.{sets, length-take-le, drop-at}
+use lib.Seq.{length-take-le, drop-at}
 use borrow.Author.Tests.{eqb-true, ne-eqb}
 use Rattle.image.specs.Image.{sizesOf, netsOf}
 use Rattle.refusals.specs.declared.answer.Refusal.{Refusal}
 use Rattle.refusals.specs.declared.answer.Outcome.{Outcome}
 use Rattle.checking.specs.Check.{checkRefusal}
 use Rattle.checking.proofs.Checked.{check-none}
-use Rattle.cycle.specs.Cycle.{plain, cyclesOf, outputsOf, stateAfter}
+use Rattle.cycle.specs.Cycle.{plain, cyclesOf, stateAfter}
 use Rattle.cycle.specs.Answers.{poweredUp}
 use Rattle.cycle.specs.Calls.{stateLength, starts, PoweredUp, powerUpOf}
 use Rattle.cycle.proofs.Calls.{starts-state, powered-up}
@@ -27,10 +26,10 @@ use Rattle.row_runs.proofs.Parting.{good-split, cycles-split, state-append}
 use Rattle.listing_text.specs.Lines.{refusedLine}
 use Rattle.page_text.specs.Pages.{pagesText}
 use Rattle.page_turns.specs.declared.turns.Progress.{Progress}
-use Rattle.page_turns.specs.PagesOf.{rowsTaken, outsOf, pagesFrom}
+use Rattle.page_turns.specs.PagesOf.{rowsTaken, pagesFrom}
 use Rattle.page_turns.specs.Turns.{Turn, turnOf, Asks, Turned}
 use Rattle.page_turns.proofs.PageByPage.{good-append, cycles-append, pages-after}
-use Rattle.pages.specs.Printed.{pagesPrinted, fullPages, PagesPrinted}
+use Rattle.pages.specs.Printed.{pagesPrinted, PagesPrinted}
 
 -- WHAT IS PRINTED, by whether the image is accepted
 pub printed-refused : (s : List ℕ) {r : Refusal} (input : List ℕ) → checkRefusal s ≡ some r → pagesPrinted s input ≡ refusedLine r

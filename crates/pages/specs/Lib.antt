@@ -1,2 +1,3 @@
--- What the pages program prints.
+-- What the pages program prints, and examples of it as text.
 pub mod Printed
+pub mod Examples

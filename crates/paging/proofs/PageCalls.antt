@@ -39,9 +39,9 @@ pub page-none : (s : List ℕ) (k : ℕ) (outputs page : List ℕ)
     ↔ ((checkRefusal s ≡ none) × (k ≤ 4096) × Codes outputs × (length outputs ≡ k * sizesOf s .outputs) × (length page ≡ pagesLength k (sizesOf s .outputs)))
 unfolding pageRefusal
 page-none s k outputs page = (
-    λ h. let a = simp accepted at h in (a .0, a .1 .0, a .1 .1 .0, a .1 .1 .1 .0, a .1 .1 .1 .1),
-    λ h. simp accepted (h .0, (h .1, (h .2, (h .3, h .4)))),
-  )
+  λ h. let a = simp accepted at h in (a .0, a .1 .0, a .1 .1 .0, a .1 .1 .1 .0, a .1 .1 .1 .1),
+  λ h. simp accepted (h .0, (h .1, (h .2, (h .3, h .4)))),
+)
 
 -- an accepted image has as many OUTs as it says, and at most 8,192
 pub outs-length : {s : List ℕ} → Checked s → length (outsOf s) ≡ sizesOf s .outputs

@@ -20,11 +20,11 @@ use Rattle.cycle.specs.declared.answer.FirstFlow as code
 use Rattle.cycle.specs.declared.answer.RunAnswer.{RunAnswer}
 use Rattle.cycle.specs.declared.answer.RunAnswer.the-variants.{Done, Refused}
 use Rattle.cycle.specs.Answers.{ran}
-use Rattle.cycle.specs.Cycle.{plain, FirstFlow, cyclesOf, outputsOf, stateAfter}
+use Rattle.cycle.specs.Cycle.{plain, FirstFlow, outputsOf, stateAfter}
 use Rattle.cycle.specs.Calls.{Answer, refused, Ran, asRun, runRefusal, runOf}
 use Rattle.cycle.proofs.Calls.{either-way, run-accepted, run-refused, IsState, Ready, run-none, run-state}
 use Rattle.cycle.proofs.Runs.{outputs-of-length}
-use Rattle.row_runs.specs.Rows.{rowRefusal, goodRows}
+use Rattle.row_runs.specs.Rows.{goodRows}
 use Rattle.row_runs.specs.Taking.{AcceptedState, Lent, cyclesOn, RowsTaken}
 use Rattle.row_runs.proofs.GoodRows.{all-good, good-codes, BadRow, row-of-bad, cycles-take}
 

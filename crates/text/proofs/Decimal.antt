@@ -93,6 +93,7 @@ digits-few (suc most) (suc d) n some h = by (ltb n 10) refl (λ l. digits-few mo
     more : (d : ℕ) → n < 10 ^ suc d → 10 ≤ n → 1 ≤ d
     more zero h l = absurd (omega (arith, power 0))
     more (suc d) h l = omega arith
+
     by : (b : Bool) → ltb n 10 ≡ b → (10 ≤ n → length (digitsUpTo most (n / 10)) ≤ d)
         → length (cond b ((48 + n) ∷ []) (digitsUpTo most (n / 10) ++ ((48 + n % 10) ∷ []))) ≤ suc d
     by true e rest = omega arith
@@ -113,6 +114,7 @@ digits-printed (suc most) n i h = by (ltb n 10) i h (digits-printed most (n / 10
     last [] d (suc i) l h rest = absurd (omega arith)
     last (x ∷ xs) d zero l h rest = rest 0 (omega arith)
     last (x ∷ xs) d (suc i) l h rest = last xs d i l (omega arith) (λ j m. rest (suc j) (omega arith))
+
     by : (b : Bool) (i : ℕ) → i < length (cond b ((48 + n) ∷ []) (digitsUpTo most (n / 10) ++ ((48 + n % 10) ∷ [])))
         → ((j : ℕ) → j < length (digitsUpTo most (n / 10)) → 48 ≤ getD (digitsUpTo most (n / 10)) j 0)
         → 48 ≤ getD (cond b ((48 + n) ∷ []) (digitsUpTo most (n / 10) ++ ((48 + n % 10) ∷ []))) i 0

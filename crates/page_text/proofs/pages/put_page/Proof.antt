@@ -92,8 +92,7 @@ returns c =
     let start = start headed in
     let outs = start .args .outs .now in
     let none = lines-none (length outs) (start .args .n) outs (start .args .bytes .now) (at .loop .j) (c .loop-test .left) in
-    let all = left-none (left-as {others = []} (rw none) (at .loop .inv .0)) in
-    (
+    let all = left-none (left-as {others = []} (rw none) (at .loop .inv .0)) in (
       all .0 ∙ rw (headed .put-heading .ensures .0, headed .put-heading .ensures .1) (sets-append (start .args .page .now) (start .args .at) (heading (start .args .first)) (lines headed)),
       omega (arith, all .1, size headed, place headed),
     )

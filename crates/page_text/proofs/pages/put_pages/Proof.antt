@@ -83,8 +83,7 @@ put-page-requires c κs =
     let many = c .before .before .on-page .ensures in
     let fits = left-room (page-left turn) (room turn) in
     let bytes = start turn .args .bytes .now in
-    let size = page-length (at turn .loop .c) (min 64 (left turn)) (outs turn) (drop (at turn .loop .from) bytes) (numbers turn) (min-le-left 64 (left turn)) in
-    (
+    let size = page-length (at turn .loop .c) (min 64 (left turn)) (outs turn) (drop (at turn .loop .from) bytes) (numbers turn) (min-le-left 64 (left turn)) in (
       (
         start turn .pre .0 .0,
         omega (arith, many, min-le-left 64 (left turn)),
@@ -121,11 +120,10 @@ loop-again c =
     let now = at turn .loop in
     let bytes = start turn .args .bytes .now in
     let n = min 64 (left turn) in
-    let size = page-length (now .c) n (outs turn) (drop (now .from) bytes) (numbers turn) (min-le-left 64 (left turn)) in
-    (
+    let size = page-length (now .c) n (outs turn) (drop (now .from) bytes) (numbers turn) (min-le-left 64 (left turn)) in (
       left-as
-      (ap (λ l. l ++ []) (rest-as (start turn .args .k) (now .c) (now .from) (outs turn) bytes (many c)))
-      (left-then (page-left turn) (page-as (now .page) (now .at) (now .c) (outs turn) (put .put-page .ensures .0) (many c) (rest-bytes turn)) (omega (arith, size, put .put-page .ensures .1))),
+          (ap (λ l. l ++ []) (rest-as (start turn .args .k) (now .c) (now .from) (outs turn) bytes (many c)))
+          (left-then (page-left turn) (page-as (now .page) (now .at) (now .c) (outs turn) (put .put-page .ensures .0) (many c) (rest-bytes turn)) (omega (arith, size, put .put-page .ensures .1))),
       omega (arith, taken c, now .inv .1, add-mul (now .c) n (length (outs turn)), ap (λ m. (now .c + m) * length (outs turn)) (many c)),
       omega (arith, many c, min-le-right 64 (left turn), turn .loop-test .taken),
     )

@@ -49,8 +49,7 @@ loop-again c =
     let now = at turn .loop in
     let byte : getD (outputBytes (args .o) (args .j) (args .n) (args .bytes .now)) (now .c) 0 ≡ getD (args .bytes .now) (now .from) 0 =
     output-at (args .o) (args .j) (args .n) (args .bytes .now) (now .c) (turn .loop-test .taken) ∙ ap (λ m. getD (args .bytes .now) m 0) (sym (now .inv .1)) in
-    let more : now .c < length (outputBytes (args .o) (args .j) (args .n) (args .bytes .now)) = rw (output-length (args .o) (args .j) (args .n) (args .bytes .now)) (turn .loop-test .taken) in
-    (
+    let more : now .c < length (outputBytes (args .o) (args .j) (args .n) (args .bytes .now)) = rw (output-length (args .o) (args .j) (args .n) (args .bytes .now)) (turn .loop-test .taken) in (
       rw (at turn .before .signs .ensures (getD (args .bytes .now) (now .from) 0)) (rw byte at (put-goes-on more (now .inv .0))),
       omega (arith, now .inv .1, add-mul (now .c) 1 (args .o), one-mul (args .o)),
       omega (arith, turn .loop-test .taken),

@@ -1,5 +1,4 @@
 -- `page_turns::putting::or_short` meets its contract: the refusal of a row comes before that of a short one.
-use mathlib.Core.Path.{refl}
 use borrow.Author.Needs.{needs}
 use borrow.Author.Tests.{eq-eqb, ne-eqb}
 use Rattle.page_turns.proofs.putting.or_short.Statement.{statement}

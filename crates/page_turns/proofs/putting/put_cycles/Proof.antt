@@ -1,7 +1,5 @@
 -- `page_turns::putting::put_cycles` meets its contract: no cycle gives no page, and at most 64 give one.
 use native.Mathlib.Omega.{arith}
-use mathlib.Core.Path.{refl, sym, ap, _∙_}
-use lib.Seq.{sets}
 use borrow.Author.Needs.{needs}
 use Rattle.page_text.proofs.PageParts.{Numbers, page-length}
 use Rattle.page_turns.proofs.TextParts.{no-page, one-page}

@@ -2,12 +2,12 @@
 use Prim.Native.Nat.{_*_, _/_, _≤_}
 use native.Mathlib.Nat.{mul-le-mul}
 use native.Mathlib.Omega.{arith}
-use mathlib.Core.Path.{sym, ap, _∙_}
+use mathlib.Core.Path.{sym}
 use mathlib.Core.List.{_++_}
 use lib.ListN.{length, drop}
-use lib.Seq.{length-take-le, length-front}
+use lib.Seq.{length-take-le}
 use borrow.Author.Needs.{needs}
-use Rattle.page_turns.proofs.RowsPrinted.{outs-few, whole-few, whole-within, filled-within, rows-lent, good-few, shown-within, rows-printed}
+use Rattle.page_turns.proofs.RowsPrinted.{outs-few, whole-within, filled-within, rows-lent, good-few, shown-within, rows-printed}
 use Rattle.page_turns.proofs.putting.put_rows.Statement.{statement}
 use Rattle.page_turns.proofs.putting.put_rows.Tie as tie
 

@@ -1,6 +1,4 @@
 -- `pages::printing::print_refused` meets its contract: the line of a refusal has room.
-use native.Mathlib.Omega.{arith}
-use mathlib.Core.List.{[]}
 use borrow.Author.Needs.{needs}
 use Rattle.page_turns.proofs.TextParts.{refusal-put, one-put}
 use Rattle.pages.proofs.printing.print_refused.Statement.{statement}

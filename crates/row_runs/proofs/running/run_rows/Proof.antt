@@ -1,9 +1,9 @@
 -- `row_runs::running::run_rows` meets its contract: the run's answer decides whether all rows are good, or those before a bad byte's row.
 use Prim.Native.Nat.{_*_, _/_, _≤_}
 use native.Mathlib.Omega.{arith}
-use mathlib.Core.Path.{sym, _∙_}
+use mathlib.Core.Path.{sym}
 use lib.ListN.{length}
-use lib.Seq.{length-take-le, length-front}
+use lib.Seq.{length-take-le}
 use borrow.Author.Needs.{needs}
 use Rattle.row_runs.proofs.Answering.{all-run, good-bytes, good-there, good-room, good-run}
 use Rattle.row_runs.proofs.running.run_rows.Statement.{statement}
