@@ -19,13 +19,13 @@ use Rattle.cycle.proofs.Calls.{either-way}
 use Rattle.cycle.proofs.Selections.{place-below}
 use Rattle.text.specs.Decimal.{decimal}
 use Rattle.text.proofs.Decimal.{decimal-most}
-use Rattle.page_text.specs.Pages.{sign, outputBytes, outputLine, pagesText, pageCount}
+use Rattle.page_text.specs.Pages.{outsOf, sign, outputBytes, outputLine, pagesText, pageCount}
 use Rattle.page_text.proofs.PageParts.{Numbers}
 use Rattle.page_text.proofs.Pagewise.{pages-length}
 use Rattle.page_text.proofs.Places.{pageLine, pages-at}
 use Rattle.page_text.proofs.Signs.{output-length, output-at}
 use Rattle.page_text.proofs.LineChars as chars
-use Rattle.paging.specs.Paging.{outsOf, pagesOf, pageRefusal, pageOf}
+use Rattle.paging.specs.Paging.{pagesOf, pageRefusal, pageOf}
 use Rattle.paging.proofs.PageCalls.{page-none, page-accepted, page-refused, outs-length, outs-numbers, outs-place}
 use Rattle.claims.specs.NetBytes.{netOf, placeOf}
 use Rattle.claims.specs.Page as claim

@@ -6,17 +6,19 @@ use mathlib.Core.Logic.{_⊎_, inl, inr, ⊎-elim}
 use mathlib.Core.Path.{_≡_, refl, ap, sym, _∙_}
 use mathlib.Core.Bool.{Bool, true, false}
 use mathlib.Core.List.{List}
-use mathlib.Core.Option.{none}
+use mathlib.Core.Option.{none, some}
 use lib.Dec.{ltb}
 use lib.ListN.{length, getD}
 use lib.Seq.{ext-getD}
 use borrow.Author.Tests.{ltb-true, ltb-false}
 use Rattle.image.specs.Image.{sizesOf, net, netsOf}
+use Rattle.refusals.specs.Refusals.{refusal}
 use Rattle.cycle.proofs.Selections.{place-found}
 use Rattle.text.specs.Decimal.{decimal}
 use Rattle.paging.specs.Paging.{pageRefusal, pageOf}
 use Rattle.paging.proofs.PageCalls.{page-accepted}
-use Rattle.claims.specs.Accepted.{AcceptedImage, AcceptedRecord, pagesBytes}
+use Rattle.claims.specs.Accepted.{AcceptedImage, NoneAbove3, AcceptedRecord, pagesBytes}
+use Rattle.claims.specs.Refused.{page, FirstAbove3, Refused, many-page-cycles, record-byte, record-size, page-size}
 use Rattle.claims.specs.NetBytes.{netOf, placeOf}
 use Rattle.claims.specs.Page.{Written, Shape, Heading, NetNumber, Sign, pages, lineAt, byteAt}
 use Rattle.claims.proofs.Promised.{promised}
@@ -150,3 +152,14 @@ pub held-lines : (s : List ℕ) (k : ℕ) (outputs buf : List ℕ) → Written s
 held-lines s k outputs buf w =
     let t = promised .page-shape s k outputs buf w in
     (t .all, t .no-more, λ p l i h m n e. let c = t .printed p l i h m n in omega arith)
+
+-- a bad byte draws 13 whatever the record's length and the buffer; then the record's length draws 14, and the buffer's 19
+pub held-order : (s : List ℕ) (k : ℕ) (outputs buf : List ℕ) → AcceptedImage s
+    → (4096 < k → pageOf s k outputs buf .refusal ≡ some (refusal 9 0))
+    × ((i : ℕ) → k ≤ 4096 → FirstAbove3 outputs i → pageOf s k outputs buf .refusal ≡ some (refusal 13 i))
+    × (k ≤ 4096 → NoneAbove3 outputs → (length outputs ≡ k * sizesOf s .outputs → ⊥) → pageOf s k outputs buf .refusal ≡ some (refusal 14 0))
+    × (k ≤ 4096 → AcceptedRecord s k outputs → (length buf ≡ pagesBytes s k → ⊥) → pageOf s k outputs buf .refusal ≡ some (refusal 19 0))
+held-order s k outputs buf a =
+    let draws : (number place : ℕ) → Refused s (page k outputs buf) number place → pageOf s k outputs buf .refusal ≡ some (refusal number place) =
+    λ number place h. promised .refusals s (page k outputs buf) (refusal number place) .1 h in
+    (λ l. draws 9 0 (many-page-cycles a l), λ i l w. draws 13 i (record-byte a l w), λ l c h. draws 14 0 (record-size a l c h), λ l r h. draws 19 0 (page-size a l r h))

@@ -4,7 +4,10 @@ use Prim.Native.Char.{code}
 use mathlib.Core.List.{List, [], _∷_, _++_, map}
 use mathlib.Core.Bool.{cond}
 use lib.ListN.{length, getD, drop, replicate}
+use Rattle.gates.specs.Kinds.{OUT}
 use Rattle.gates.specs.Rules.{value, mark}
+use Rattle.image.specs.Image.{netsOf}
+use Rattle.image.specs.Places.{placesFrom}
 use Rattle.text.specs.Ascii.{ascii, space, newline}
 use Rattle.text.specs.Decimal.{decimal}
 
@@ -44,6 +47,10 @@ outputLine net bytes = line (setRight 5 (decimal net)) (setLeft 64 (map sign byt
 unfoldable pub outputLines : (o j n : ℕ) (nets bytes : List ℕ) → List ℕ
 outputLines o j n [] bytes = []
 outputLines o j n (net ∷ nets) bytes = outputLine net (outputBytes o j n bytes) ++ outputLines o (suc j) n nets bytes
+
+-- the net numbers of the outputs of an image s, in net order
+abbrev pub outsOf : (s : List ℕ) → List ℕ
+outsOf s = placesFrom OUT 0 (netsOf s)
 
 -- one page: the heading, and a line per output, of n cycles, the first of which is cycle `first`; outs has the net numbers of the outputs, and bytes the outputs' bytes,
 -- cycle after cycle and each cycle in output order

@@ -15,9 +15,9 @@ use Rattle.lists.proofs.Placing.{places-selected}
 use Rattle.row_runs.specs.Rows.{goodRows}
 use Rattle.row_runs.specs.Taking.{cyclesOn}
 use Rattle.row_runs.proofs.Parting.{good-take, good-split, good-first, cycles-split, cycles-front, outputs-append, state-append}
-use Rattle.page_text.specs.Pages.{outputBytes, outputLines, pageText, pagesText}
+use Rattle.page_text.specs.Pages.{outsOf, outputBytes, outputLines, pageText, pagesText}
 use Rattle.page_text.proofs.Pagewise.{pages-next}
-use Rattle.page_turns.specs.PagesOf.{rowsTaken, rowsRefusal, outsOf, cyclePages, pagesFrom}
+use Rattle.page_turns.specs.PagesOf.{rowsTaken, rowsRefusal, cyclePages, pagesFrom}
 
 -- A PAGE of n cycles does not depend on the bytes after theirs
 output-front : (o j n : ℕ) (xs ys : List ℕ) → j < o → n * o ≤ length xs → outputBytes o j n (xs ++ ys) ≡ outputBytes o j n xs

@@ -5,16 +5,13 @@ use mathlib.Core.Option.{Option, none, some}
 use mathlib.Core.Bool.{not}
 use lib.Dec.{eqb}
 use lib.ListN.{length}
-use Rattle.gates.specs.Kinds.{OUT}
-use Rattle.image.specs.Image.{netsOf}
-use Rattle.image.specs.Places.{placesFrom}
 use Rattle.refusals.specs.declared.answer.Refusal.{Refusal}
 use Rattle.refusals.specs.Refusals.{refuse, _then_}
 use Rattle.cycle.specs.Cycle.{outputsOf}
 use Rattle.row_runs.specs.Rows.{rowRefusal, goodRows}
 use Rattle.row_runs.specs.Taking.{cyclesOn}
 use Rattle.listing_text.specs.Lines.{refusedLine}
-use Rattle.page_text.specs.Pages.{pagesText, pageCount}
+use Rattle.page_text.specs.Pages.{outsOf, pagesText, pageCount}
 
 -- of some bytes, in rows of i bytes each: how many rows come before the first that is short or has a byte above 3
 unfoldable pub rowsTaken : (i : ℕ) (bytes : List ℕ) → ℕ
@@ -28,10 +25,6 @@ rowsRefusal i bytes = rowRefusal i (length bytes / i) bytes then refuse (not (eq
 abbrev pub lastLine : Option Refusal → List ℕ
 lastLine none = []
 lastLine (some r) = refusedLine r
-
--- the numbers of an image's OUTs, in net order
-abbrev pub outsOf : (s : List ℕ) → List ℕ
-outsOf s = placesFrom OUT 0 (netsOf s)
 
 -- the pages of k cycles of an image s, the first of which is cycle `first`, from the state st
 unfoldable pub cyclePages : (s : List ℕ) (i first k : ℕ) (bytes st : List ℕ) → List ℕ

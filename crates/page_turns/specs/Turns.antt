@@ -12,7 +12,8 @@ use Rattle.cycle.specs.Cycle.{stateAfter}
 use Rattle.row_runs.specs.Taking.{AcceptedState, cyclesOn}
 use Rattle.page_turns.specs.declared.putting.Printed.{Printed}
 use Rattle.page_turns.specs.declared.turns.Progress.{Progress}
-use Rattle.page_turns.specs.PagesOf.{rowsTaken, outsOf, pagesFrom}
+use Rattle.page_text.specs.Pages.{outsOf}
+use Rattle.page_turns.specs.PagesOf.{rowsTaken, pagesFrom}
 
 -- what a turn leaves: the text that it prints, the state, the number of cycles, and whether another turn follows
 pub record Turn : Type 0 where

@@ -12,8 +12,8 @@ use Rattle.cycle.specs.Cycle.{outputsOf}
 use Rattle.cycle.specs.Calls.{starts}
 use Rattle.row_runs.specs.Taking.{cyclesOn}
 use Rattle.listing_text.specs.Lines.{refusedLine}
-use Rattle.page_text.specs.Pages.{pagesText}
-use Rattle.page_turns.specs.PagesOf.{outsOf, pagesFrom}
+use Rattle.page_text.specs.Pages.{outsOf, pagesText}
+use Rattle.page_turns.specs.PagesOf.{pagesFrom}
 
 -- the refusal that an image s draws; nothing with I = 0; or from power-up the pages of the rows of I bytes before the first that is short or has a byte above 3, and the refusal of that one
 unfoldable pub pagesPrinted : (s input : List ℕ) → List ℕ

@@ -19,9 +19,9 @@ use Rattle.checking.specs.Check.{checkRefusal}
 use Rattle.checking.proofs.Checked.{Checked, check-none, few-of}
 use Rattle.cycle.proofs.Selections.{selection-length, selection-place}
 use Rattle.lists.proofs.Placing.{places-selected, places-differ}
-use Rattle.page_text.specs.Pages.{pagesLength}
+use Rattle.page_text.specs.Pages.{outsOf, pagesLength}
 use Rattle.page_text.proofs.PageParts.{Numbers}
-use Rattle.paging.specs.Paging.{outsOf, pagesOf, pageRefusal, pageOf}
+use Rattle.paging.specs.Paging.{pagesOf, pageRefusal, pageOf}
 
 pub page-accepted : (s : List ℕ) (k : ℕ) (outputs page : List ℕ) → pageRefusal s k outputs page ≡ none
     → pageOf s k outputs page ≡ record { refusal = none; page = pagesOf s k outputs }

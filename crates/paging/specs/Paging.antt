@@ -3,17 +3,11 @@ use Prim.Native.Nat.{ℕ, _*_}
 use mathlib.Core.List.{List}
 use mathlib.Core.Option.{Option, none, some}
 use lib.Dec.{ltb}
-use Rattle.gates.specs.Kinds.{OUT}
-use Rattle.image.specs.Image.{sizesOf, netsOf}
-use Rattle.image.specs.Places.{placesFrom}
+use Rattle.image.specs.Image.{sizesOf}
 use Rattle.refusals.specs.declared.answer.Refusal.{Refusal}
 use Rattle.refusals.specs.Refusals.{refuse, _then_, plainBytes, badByte, badLength}
 use Rattle.checking.specs.Check.{checkRefusal}
-use Rattle.page_text.specs.Pages.{pagesText, pageCount, pagesLength}
-
--- the net numbers of the outputs of an image s, in net order
-abbrev pub outsOf : (s : List ℕ) → List ℕ
-outsOf s = placesFrom OUT 0 (netsOf s)
+use Rattle.page_text.specs.Pages.{outsOf, pagesText, pageCount, pagesLength}
 
 -- the pages of k cycles from cycle 0 on, by the outputs' bytes, cycle after cycle and each cycle in output order
 unfoldable pub pagesOf : (s : List ℕ) (k : ℕ) (outputs : List ℕ) → List ℕ
