@@ -30,15 +30,17 @@
  * 6 with 2 and with 3, independently of the other pins, also of those on the same net. The gate's value is known if all fillings agree in it, and it is
  * marked if any of them is. So an inverted pin and a NOT leave 4 and 6 as they are. A protected OUT with code 2, 3 or 6 is a flow; 4 is not marked.
  *
+ * A record is the k x O output bytes of a run, cycle after cycle and each cycle in output order. tracker_page writes it as pages of text.
+ *
  * Every call takes byte buffers as a pointer and a length, and each length must be exactly the one that the call asks for: a longer buffer is refused
- * too. A call reads `image`, `row` and `rows`, and may write `state`, `nets`, `outputs` and `buffer`. It keeps no pointer, takes no memory but the
- * stack, and does not depend on earlier calls. A buffer that a call writes must not overlap another buffer of the same call. No pointer may be null,
- * even where the length is 0: lend the address of any byte then.
+ * too. A call reads `image`, `row`, `rows` and `record`, and may write `state`, `nets`, `outputs`, `buffer` and `page`. It keeps no pointer, takes no
+ * memory but the stack, and does not depend on earlier calls. A buffer that a call writes must not overlap another buffer of the same call. No pointer
+ * may be null, even where the length is 0: lend the address of any byte then.
  *
  * Every answer is one number:
  *   - of a call that turned back: the refusal's number x 2^32 + its place. No lent byte has changed, but that 17 sets `buffer` to 0;
- *   - otherwise a number below 2^32: of a check, a power-up or a doubling 0; of a step its verdict, 65,535 for clear or the net of the flow; of a run
- *     the cycle x 65,536 + the verdict; of tracker_doubled_size and tracker_doubled_kind a number of nets, at most 8,192. The answers of a static
+ *   - otherwise a number below 2^32: of a check, a power-up, a doubling or pages 0; of a step its verdict, 65,535 for clear or the net of the flow; of
+ *     a run the cycle x 65,536 + the verdict; of tracker_doubled_size and tracker_doubled_kind a number of nets, at most 8,192. The answers of a static
  *     power-up and a static run are those of a power-up and a run.
  * No verdict is 0, since net 0 is never an OUT. So an answer variable that is still 0, or the answer of tracker_check, does not read as clear; nor
  * does a number of nets.
@@ -65,7 +67,7 @@ enum { TRACKER_UNKNOWN_TRUSTED = 4, TRACKER_UNKNOWN_UNTRUSTED = 6 };
 /* The number of a clear verdict, which is no net's number. */
 enum { TRACKER_CLEAR = 65535 };
 
-/* The numbers of refusals: 1 to 17 as in document 01's table, and 18 of document 02. */
+/* The numbers of refusals: 1 to 17 as in document 01's table, and 18 and 19 of document 02. */
 enum {
     TRACKER_IMAGE_TOO_SHORT = 1,   /* under 8 bytes */
     TRACKER_NETS_OUT_OF_RANGE = 2, /* N is 0 or above 8,192 */
@@ -79,12 +81,13 @@ enum {
     TRACKER_STATE_LENGTH = 10,     /* not R */
     TRACKER_STATE_BYTE = 11,       /* above 3; the place is its index */
     TRACKER_ROW_LENGTH = 12,       /* not I, or k x I for a run */
-    TRACKER_ROW_BYTE = 13,         /* above 3; the place is its index */
-    TRACKER_BUFFER_LENGTH = 14,    /* not N, or k x O for a run */
+    TRACKER_ROW_BYTE = 13,         /* a row's byte, or a record's, is above 3; the place is its index */
+    TRACKER_BUFFER_LENGTH = 14,    /* not N, or k x O for a run; or a record's length is not k x O */
     TRACKER_DOUBLED_TOO_LARGE = 15, /* the doubled netlist has more than 8,192 nets */
     TRACKER_DOUBLED_LENGTH = 16,   /* the buffer is not as long as the doubled image */
     TRACKER_DOUBLED_REFUSED = 17,  /* the doubled image draws 1 to 8; never given */
-    TRACKER_STATIC_BYTE = 18       /* a state or row byte of a static run is 5 or above 6; the place is its index */
+    TRACKER_STATIC_BYTE = 18,      /* a state or row byte of a static run is 5 or above 6; the place is its index */
+    TRACKER_PAGE_LENGTH = 19       /* the page buffer is not exactly as long as the pages */
 };
 
 /* Whether an image is a netlist. Answers 0, or one of the refusals 1 to 8. */
@@ -151,6 +154,20 @@ uint64_t tracker_doubled_kind(const uint8_t *image, size_t image_length,
 uint64_t tracker_double(const uint8_t *image, size_t image_length,
                         uint8_t *buffer, size_t buffer_length);
 
+/* Writes the pages of a record, the k x O output bytes of a run of k cycles, k at most 4,096. A page shows 64 cycles, and the last one those that are
+ * left. It is a heading line and a line per output, in output order, each 70 characters and a newline. Columns 1 to 5 hold the word cycle in the heading,
+ * and in the other lines the OUT's own net number, set right; column 6 is blank. The other 64 columns hold in the heading the number of the page's first
+ * cycle, set left, and in the other lines one sign per cycle: 0 and 1, or l and h for an untrusted 0 and 1. Unused columns are blank. k = 0 gives no
+ * page, and O = 0 gives headings alone. All of it is ASCII, and no 0 byte stands at the end. tracker_page_length gives the bytes of all pages.
+ *
+ * Answers 0, or one of the refusals 1 to 9, 13, 14 and 19. They are tried in this order: 1 to 9; 13 for the record's first byte above 3, whatever the
+ * record's length; 14 for that length; and 19 for the length of the page. The place of 13 is the index of that byte, or 2^32 - 1 where the index is
+ * larger, since an answer has 32 bits for a place. A record of a static run is refused where it has a 4 or a 6. */
+uint64_t tracker_page(const uint8_t *image, size_t image_length,
+                      size_t k,
+                      const uint8_t *record, size_t record_length,
+                      uint8_t *page, size_t page_length);
+
 /* The number of the refusal in an answer, or 0 where the call did not turn back; and the refusal's place. */
 static inline uint32_t tracker_refusal(uint64_t answer) { return (uint32_t)(answer >> 32); }
 static inline uint32_t tracker_place(uint64_t answer) { return (uint32_t)answer; }
@@ -180,6 +197,13 @@ static inline int tracker_is_marked(uint8_t code) { return code / 2 % 2 == 1; }
 static inline size_t tracker_image_length(uint64_t nets)
 {
     return tracker_refusal(nets) != 0 ? 0 : (size_t)(8 + 7 * nets);
+}
+
+/* The bytes of all pages of k cycles, at most 4,096, and so many outputs: a page for each 64 cycles and for those that are left, and on each page a
+ * heading and a line per output, of 71 bytes each. */
+static inline size_t tracker_page_length(size_t k, size_t outputs)
+{
+    return (k + 63) / 64 * (1 + outputs) * 71;
 }
 
 #ifdef __cplusplus

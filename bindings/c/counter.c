@@ -97,10 +97,9 @@ static void answers_that_are_not_clear(void)
     printf("check, read as a step: %s\n", tracker_is_clear(answer) ? "clear" : "not clear");
 }
 
-static void power_up_and_run(const uint8_t image[sizeof counter])
+static void power_up_and_run(const uint8_t image[sizeof counter], uint8_t outputs[4])
 {
     uint8_t state[1] = { 0 };
-    uint8_t outputs[4] = { 0 };
     const uint8_t rows[4] = { 2, 0, 1, 0 };
 
     printf("power-up: ");
@@ -108,9 +107,31 @@ static void power_up_and_run(const uint8_t image[sizeof counter])
     print_bytes("state", state, sizeof state);
 
     printf("\nrun on 2 0 1 0: ");
-    print_first_flow(tracker_run(image, sizeof counter, 4, state, sizeof state, rows, sizeof rows, outputs, sizeof outputs));
-    print_bytes("outputs", outputs, sizeof outputs);
+    print_first_flow(tracker_run(image, sizeof counter, 4, state, sizeof state, rows, sizeof rows, outputs, 4));
+    print_bytes("outputs", outputs, 4);
     print_bytes("state", state, sizeof state);
+    printf("\n");
+}
+
+/* Four cycles and one output take one page of two lines, each 70 characters and a newline. */
+enum { PAGE_OF_COUNTER = 2 * 71 };
+
+/* The run's record, 0 3 2 0, is a 0, an untrusted 1, an untrusted 0 and a 0: 0hl0. A page of one byte less is refused, as is a record with a 4. */
+static void run_and_print_page(void)
+{
+    uint8_t record[4] = { 0 };
+    uint8_t page[PAGE_OF_COUNTER] = { 0 };
+
+    power_up_and_run(counter, record);
+    printf("page of %zu bytes: ", tracker_page_length(4, 1));
+    print_done(tracker_page(counter, sizeof counter, 4, record, sizeof record, page, sizeof page));
+    printf("\n%.*s", (int)sizeof page, (const char *)page);
+
+    printf("page of %zu bytes: ", sizeof page - 1);
+    print_done(tracker_page(counter, sizeof counter, 4, record, sizeof record, page, sizeof page - 1));
+    record[2] = TRACKER_UNKNOWN_TRUSTED;
+    printf("\npage of 0 3 4 0: ");
+    print_done(tracker_page(counter, sizeof counter, 4, record, sizeof record, page, sizeof page));
     printf("\n");
 }
 
@@ -125,10 +146,11 @@ static void take_start_away(uint8_t unknown[sizeof counter])
 static void run_without_start(void)
 {
     uint8_t unknown[sizeof counter];
+    uint8_t outputs[4] = { 0 };
 
     take_start_away(unknown);
     printf("without a start, ");
-    power_up_and_run(unknown);
+    power_up_and_run(unknown, outputs);
 }
 
 /* The OUT's pin on net 1 is inverted: the outputs have the other values, and the same marks. */
@@ -136,12 +158,13 @@ static void run_with_inverted_pin(void)
 {
     const unsigned pin = TRACKER_INVERTED + 1;
     uint8_t inverted[sizeof counter];
+    uint8_t outputs[4] = { 0 };
 
     memcpy(inverted, counter, sizeof counter);
     inverted[PIN_OF_NET_5] = (uint8_t)(pin % 256);
     inverted[PIN_OF_NET_5 + 1] = (uint8_t)(pin / 256);
     printf("with an inverted output, ");
-    power_up_and_run(inverted);
+    power_up_and_run(inverted, outputs);
 }
 
 /* Four cycles on codes from static power-up, each with the same code as its row. */
@@ -269,7 +292,7 @@ int main(void)
     printf("\n");
     power_up_and_step();
     answers_that_are_not_clear();
-    power_up_and_run(counter);
+    run_and_print_page();
     run_without_start();
     run_with_inverted_pin();
     run_on_unknown_rows();

@@ -1,9 +1,9 @@
 //! Counts of inverted pins in what was tried, and of the top bit where it was
 //! refused.
 
-use crate::call::{Name, NAMES};
 use crate::coding::{number_of, place_of};
 use crate::listed::{limit_of, listed_of, net_of, pins_of, setting_of};
+use crate::name::{Name, NAMES};
 use tracker::kinds::{CONST, INVERTED, OUT};
 use tracker::{Image, Net};
 

@@ -1,87 +1,6 @@
 //! One call, with the bytes that it is lent beside the image.
 
-/// The nine calls.
-#[derive(Clone, Copy, Debug, PartialEq, Eq)]
-pub enum Name {
-    Check,
-    PowerUp,
-    Step,
-    Run,
-    DoubledSize,
-    DoubledKind,
-    Double,
-    StaticPowerUp,
-    StaticRun,
-}
-
-/// How many calls there are.
-pub const NAMES: usize = 9;
-
-impl Name {
-    /// The name of the function in the library.
-    pub fn function(self) -> &'static str {
-        match self {
-            Name::Check => "tracker_check",
-            Name::PowerUp => "tracker_power_up",
-            Name::Step => "tracker_step",
-            Name::Run => "tracker_run",
-            Name::DoubledSize => "tracker_doubled_size",
-            Name::DoubledKind => "tracker_doubled_kind",
-            Name::Double => "tracker_double",
-            Name::StaticPowerUp => "tracker_static_power_up",
-            Name::StaticRun => "tracker_static_run",
-        }
-    }
-
-    /// What the library's interface calls the rows.
-    pub fn rows(self) -> &'static str {
-        match self {
-            Name::Step => "row",
-            _ => "rows",
-        }
-    }
-
-    /// What the library's interface calls the buffer that the call fills.
-    pub fn filled(self) -> &'static str {
-        match self {
-            Name::Step => "nets",
-            Name::Run | Name::StaticRun => "outputs",
-            _ => "buffer",
-        }
-    }
-
-    /// The call takes k cycles.
-    pub fn has_k(self) -> bool {
-        matches!(self, Name::Run | Name::StaticRun)
-    }
-
-    pub fn has_state(self) -> bool {
-        self.has_rows() || matches!(self, Name::PowerUp | Name::StaticPowerUp)
-    }
-
-    pub fn has_rows(self) -> bool {
-        self == Name::Step || self.has_k()
-    }
-
-    pub fn has_filled(self) -> bool {
-        self.has_rows() || self == Name::Double
-    }
-
-    /// The call may turn back with this number.
-    pub fn may_refuse(self, number: u64) -> bool {
-        match number {
-            1..=8 => true,
-            9 => self.has_k(),
-            10 => self.has_state(),
-            11 | 13 => matches!(self, Name::Step | Name::Run),
-            12 | 14 => self.has_rows(),
-            15 => matches!(self, Name::DoubledSize | Name::DoubledKind | Name::Double),
-            16 => self == Name::Double,
-            18 => self == Name::StaticRun,
-            _ => false,
-        }
-    }
-}
+use crate::name::Name;
 
 /// A call. What its function does not take is empty or 0 and is not lent.
 #[derive(Clone, Debug)]
@@ -90,8 +9,10 @@ pub struct Call {
     pub k: usize,
     pub kind: usize,
     pub state: Vec<u8>,
+    /// The rows, or the record of which pages are written.
     pub rows: Vec<u8>,
-    /// The net bytes of a step, the outputs of a run, or the doubled image.
+    /// The net bytes of a step, the outputs of a run, the doubled image, or the
+    /// pages.
     pub filled: Vec<u8>,
 }
 
@@ -166,6 +87,15 @@ impl Call {
         Call {
             filled: buffer,
             ..Call::empty(Name::Double)
+        }
+    }
+
+    pub fn page(k: usize, record: Vec<u8>, page: Vec<u8>) -> Call {
+        Call {
+            k,
+            rows: record,
+            filled: page,
+            ..Call::empty(Name::Page)
         }
     }
 

@@ -1,4 +1,4 @@
-//! The nine functions of the compiled library.
+//! The ten functions of the compiled library.
 //!
 //! They are held in a struct, so that a broken stand-in can take the place of
 //! any of them and the harness can be seen to notice it.
@@ -39,6 +39,10 @@ pub type DoubledKind = unsafe extern "C" fn(*const u8, usize, usize) -> u64;
 /// The type of `tracker_double`: the image and the buffer.
 pub type Double = unsafe extern "C" fn(*const u8, usize, *mut u8, usize) -> u64;
 
+/// The type of `tracker_page`: the image, k, the record and the page.
+pub type Page =
+    unsafe extern "C" fn(*const u8, usize, usize, *const u8, usize, *mut u8, usize) -> u64;
+
 #[derive(Clone, Copy)]
 pub struct Calls {
     pub check: Check,
@@ -50,6 +54,7 @@ pub struct Calls {
     pub double: Double,
     pub static_power_up: PowerUp,
     pub static_run: Run,
+    pub page: Page,
 }
 
 /// The compiled library itself.
@@ -63,4 +68,5 @@ pub const LIBRARY: Calls = Calls {
     double: ffi::tracker_double,
     static_power_up: ffi::tracker_static_power_up,
     static_run: ffi::tracker_static_run,
+    page: ffi::tracker_page,
 };

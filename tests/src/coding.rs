@@ -1,6 +1,6 @@
 //! Answers as the library's interface codes them in one number.
 
-use crate::call::Name;
+use crate::name::Name;
 use reference::{FirstFlow, Refusal, Verdict};
 
 /// A refusal: its number times 2^32, and its place.

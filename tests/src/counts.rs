@@ -1,7 +1,8 @@
 //! The counts of a good netlist, from which the right lengths of all buffers
 //! follow.
 
-use crate::call::{Call, Name};
+use crate::call::Call;
+use crate::name::Name;
 use reference::GROUP_LENGTHS;
 use tracker::kinds::OUT;
 use tracker::{image_length, Net, Sizes, MOST_CYCLES, MOST_NETS};
@@ -44,7 +45,7 @@ impl Counts {
     pub fn fit(&self, call: &Call) -> bool {
         let (rows, filled) = match call.name {
             Name::Step => (self.inputs, self.nets),
-            name if name.has_k() && call.k <= MOST_CYCLES => {
+            Name::Run | Name::StaticRun if call.k <= MOST_CYCLES => {
                 (call.k * self.inputs, call.k * self.outputs)
             }
             _ => return false,
@@ -60,6 +61,13 @@ impl Counts {
     /// The exact length of the doubled image.
     pub fn doubled_length(&self) -> usize {
         image_length(self.doubled)
+    }
+
+    /// The exact length of the pages of k cycles. For a k far above 4,096 it is what
+    /// is left of the length once its high bits are lost.
+    pub fn page_length(&self, k: usize) -> usize {
+        let pages = k / 64 + usize::from(k % 64 > 0);
+        pages.wrapping_mul(71 * (1 + self.outputs))
     }
 
     /// The value net of a net in the doubled netlist.

@@ -20,6 +20,27 @@ pub const NOTED: [usize; 12] = [
     usize::MAX,
 ];
 
+/// Numbers of cycles with which a page is just full or not, and those at the limit.
+pub const PAGED: [usize; 11] = [0, 1, 63, 64, 65, 127, 128, 129, 4095, 4096, 4097];
+
+/// Records that are not to be long have at most so many bytes.
+const LONG_RECORD: usize = 20_000;
+
+/// A good number of cycles for pages of so many outputs: a few, some hundred, just
+/// full pages or nearly so, or, where few outputs are shown, about 4,096.
+pub fn paged(random: &mut Random, outputs: usize) -> usize {
+    let k = match random.below(64) {
+        0 => random.pick(&[4095, MOST_CYCLES]),
+        1..=16 => random.pick(&PAGED[..8]),
+        17..=24 => random.between(2, 300),
+        _ => return few(random),
+    };
+    if k * outputs > LONG_RECORD {
+        return few(random);
+    }
+    k
+}
+
 /// A number of cycles that is cheap to run, mostly a few.
 pub fn few(random: &mut Random) -> usize {
     match random.below(16) {

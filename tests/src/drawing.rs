@@ -1,10 +1,12 @@
 //! Random calls on a good netlist, with lengths that are right or made wrong.
 
 use crate::bytes::{self, resize, tracked};
-use crate::call::{Call, Name};
+use crate::call::Call;
 use crate::codes;
 use crate::counts::Counts;
 use crate::cycles::{few, with_high_bits, wrapping, NOTED};
+use crate::name::Name;
+use crate::pages;
 use crate::random::Random;
 use std::iter;
 use tracker::MOST_CYCLES;
@@ -56,7 +58,7 @@ fn large_kind(random: &mut Random) -> usize {
 /// Any call with right lengths. The state is lent where the call takes one; for
 /// a power-up, any bytes are.
 pub fn any(random: &mut Random, counts: &Counts, state: &[u8]) -> Call {
-    match random.below(16) {
+    match random.below(17) {
         0 => Call::check(),
         1 => double(random, counts),
         2 | 3 => Call::power_up(random.bytes(counts.registers)),
@@ -71,6 +73,7 @@ pub fn any(random: &mut Random, counts: &Counts, state: &[u8]) -> Call {
             let k = few(random);
             static_run(random, counts, k, state)
         }
+        12 => pages::any(random, counts),
         _ => {
             let k = few(random);
             run(random, counts, k, state)
@@ -82,6 +85,7 @@ pub fn any(random: &mut Random, counts: &Counts, state: &[u8]) -> Call {
 /// `state_too` it may be the state as well.
 pub fn put_fault(random: &mut Random, counts: &Counts, call: &mut Call, state_too: bool) {
     let spoil = match call.name {
+        Name::Page => return pages::put_fault(random, counts, call),
         Name::StaticRun => codes::spoil,
         _ => bytes::spoil,
     };

@@ -1,7 +1,8 @@
 //! What the reference answers to a call, and the bytes that it leaves.
 
-use crate::call::{Call, Name};
+use crate::call::Call;
 use crate::coding;
+use crate::name::Name;
 use reference::DoubledSize;
 
 /// The outcome that a call must have.
@@ -32,6 +33,7 @@ pub fn expect(image: &[u8], call: &Call) -> Expected {
             reference::static_run(image, call.k, &mut state, &call.rows, &mut filled)
                 .map(coding::first_flow)
         }
+        Name::Page => reference::page(image, call.k, &call.rows, &mut filled).map(|()| 0),
     };
     Expected {
         answer: answer.unwrap_or_else(coding::refusal),

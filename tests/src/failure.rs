@@ -2,9 +2,9 @@
 
 use std::fmt;
 
-use crate::call::Name;
 use crate::coding;
 use crate::lent::{Spot, WrongByte};
+use crate::name::Name;
 
 /// What went wrong, and what is needed to run the case again.
 #[derive(Clone, Debug, PartialEq, Eq)]

@@ -1,8 +1,9 @@
 //! Making a call of the library on lent buffers.
 
-use crate::call::{Call, Name};
+use crate::call::Call;
 use crate::calls::{Calls, PowerUp, Run};
 use crate::lent::{Lent, WrongByte};
+use crate::name::Name;
 use crate::random::Random;
 
 /// A call that was made: its answer, and the buffers as it left them.
@@ -93,6 +94,15 @@ impl Made {
                 ),
                 Name::DoubledSize | Name::DoubledKind => figure(calls, &mut self.image, call),
                 Name::Double => (calls.double)(image, image_length, filled, filled_length),
+                Name::Page => (calls.page)(
+                    image,
+                    image_length,
+                    call.k,
+                    rows,
+                    rows_length,
+                    filled,
+                    filled_length,
+                ),
             }
         }
     }

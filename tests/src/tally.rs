@@ -3,9 +3,11 @@
 use std::fmt;
 
 use crate::bits::Bits;
-use crate::call::{Call, Name, NAMES};
+use crate::call::Call;
 use crate::coding::{number_of, place_of, CLEAR};
 use crate::exactness::Exactness;
+use crate::name::{Name, NAMES};
+use crate::paged::Paged;
 use crate::places::class;
 use crate::unknowns::Unknowns;
 
@@ -17,9 +19,9 @@ pub struct Tally {
     /// Calls whose outcome was used for a property of the library alone.
     pub alone: u64,
     /// Calls by the number of their refusal; index 0 counts the accepted ones.
-    pub numbers: [u64; 19],
+    pub numbers: [u64; 20],
     /// Refusals 4 to 7, 11 and 13 by their place: first, last, between.
-    pub places: [[u64; 3]; 19],
+    pub places: [[u64; 3]; 20],
     /// Accepted calls, in the order of `Name`.
     pub accepted: [u64; NAMES],
     /// Accepted steps and runs that answered with a flow.
@@ -28,6 +30,8 @@ pub struct Tally {
     pub bits: Bits,
     /// Static calls.
     pub unknowns: Unknowns,
+    /// Calls that write pages.
+    pub paged: Paged,
     /// Nets whose marks were held against what changes them.
     pub exactness: Exactness,
 }
@@ -43,6 +47,7 @@ impl Tally {
         self.numbers[number] += 1;
         self.bits.note(image, call.name, answer);
         self.unknowns.note(call, answer);
+        self.paged.note(image, call, answer);
         if number == 0 {
             self.note_accepted(call.name, answer);
         } else if let Some(length) = length_of_places(image, call, number) {
@@ -70,16 +75,17 @@ impl fmt::Display for Tally {
             }
             writeln!(f)?;
         }
-        let [check, power_up, step, run, size, kind, double, static_power_up, static_run] =
+        let [check, power_up, step, run, size, kind, double, static_power_up, static_run, page] =
             self.accepted;
         writeln!(
             f,
             "accepted: check {check}, power-up {power_up}, step {step}, run {run}, \
              doubled size {size}, doubled kind {kind}, double {double}, \
-             static power-up {static_power_up}, static run {static_run}"
+             static power-up {static_power_up}, static run {static_run}, page {page}"
         )?;
         writeln!(f, "steps and runs with a flow: {}", self.flows)?;
         writeln!(f, "{}", self.unknowns)?;
+        writeln!(f, "{}", self.paged)?;
         write!(f, "{}", self.exactness)
     }
 }

@@ -2,8 +2,9 @@
 
 use std::fmt;
 
-use crate::call::{Call, Name};
+use crate::call::Call;
 use crate::coding::{number_of, place_of, CLEAR};
+use crate::name::Name;
 use crate::places::class;
 use tracker::codes::is_code;
 

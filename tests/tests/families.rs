@@ -2,32 +2,37 @@
 
 use std::mem::take;
 use std::time::Instant;
-use tests::{run_family, Bits, Exactness, Name, Tally, Unknowns, FAMILIES, LIBRARY};
+use tests::{run_family, Bits, Exactness, Name, Paged, Tally, Unknowns, FAMILIES, LIBRARY};
 
 /// Every refusal but 17 must be seen at least so often, and every one of each static
-/// call.
+/// call and of the call that writes pages.
 const LEAST_SEEN: u64 = 10;
 
 /// The calls in which a family must have inverted pins of all kinds, and images
 /// without any of all kinds, and how often.
 #[rustfmt::skip]
-const INVERTED: [(&str, &[Name], u64); 14] = [
+const INVERTED: [(&str, &[Name], u64); 15] = [
     ("exhaustive", &[
         Name::Check, Name::PowerUp, Name::Step, Name::Run, Name::Double,
-        Name::StaticPowerUp, Name::StaticRun,
+        Name::StaticPowerUp, Name::StaticRun, Name::Page,
     ], 100),
     ("four_nets", &[Name::Check, Name::Step, Name::Run, Name::Double], 1000),
-    ("good", &[Name::Check, Name::PowerUp, Name::Step, Name::Run, Name::Double], 1000),
-    ("large", &[Name::Check, Name::PowerUp, Name::Step, Name::Run, Name::Double], 50),
+    ("good", &[
+        Name::Check, Name::PowerUp, Name::Step, Name::Run, Name::Double, Name::Page,
+    ], 1000),
+    ("large", &[
+        Name::Check, Name::PowerUp, Name::Step, Name::Run, Name::Double, Name::Page,
+    ], 50),
     ("lists", &[
         Name::Check, Name::PowerUp, Name::Step, Name::Run, Name::Double,
-        Name::StaticPowerUp, Name::StaticRun,
+        Name::StaticPowerUp, Name::StaticRun, Name::Page,
     ], 100),
     ("doubling", &[Name::Check, Name::PowerUp, Name::Step, Name::Run, Name::Double], 1000),
     ("pairing", &[Name::PowerUp, Name::Step, Name::Run, Name::Double], 1000),
     ("two_runs", &[Name::PowerUp, Name::Step, Name::Run, Name::Double], 1000),
     ("steps", &[Name::Step, Name::Run], 1000),
     ("exact", &[Name::Step], 1000),
+    ("page_texts", &[Name::Run, Name::Page], 1000),
     ("static_gates", &[Name::StaticRun], 1),
     ("static_runs", &[Name::StaticPowerUp, Name::StaticRun], 1000),
     ("filling", &[Name::StaticPowerUp, Name::StaticRun, Name::Run], 1000),
@@ -62,7 +67,7 @@ fn all_families() {
 fn enough(tally: &Tally) {
     assert!(tally.compared >= 100_000);
     assert_eq!(tally.numbers[17], 0);
-    for number in (1..=16).chain([18]) {
+    for number in (1..=16).chain([18, 19]) {
         assert!(tally.numbers[number] >= LEAST_SEEN, "refusal {number}");
     }
     for number in [4, 5, 6, 7, 11, 13] {
@@ -77,6 +82,7 @@ fn enough(tally: &Tally) {
     assert!(tally.flows >= 10_000);
     assert!(clear >= 10_000);
     enough_unknowns(&tally.unknowns);
+    enough_paged(&tally.paged);
     enough_exact(&tally.exactness);
 }
 
@@ -101,6 +107,22 @@ fn enough_unknowns(unknowns: &Unknowns) {
         assert!(unknowns.powered[code] >= 1000, "powered up as {code}");
     }
     assert!(unknowns.verdicts.iter().all(|seen| *seen >= 10_000));
+}
+
+/// Asks that the call that writes pages went everywhere: each of its refusals, every
+/// noted number of cycles, netlists with and without outputs, all bytes, bad bytes at
+/// all places and in records of all lengths, and buffers too short and too long.
+fn enough_paged(paged: &Paged) {
+    for number in (0..=19).filter(|number| *number == 0 || Name::Page.may_refuse(*number)) {
+        let seen = paged.numbers[number as usize];
+        assert!(seen >= 100, "pages, refusal {number}");
+    }
+    assert!(paged.cycles.iter().all(|seen| *seen >= 100));
+    assert!(paged.outputs.iter().all(|seen| *seen >= 1000));
+    assert!(paged.bytes.iter().all(|seen| *seen >= 100_000));
+    let bad = paged.places.iter().chain(&paged.records);
+    assert!(bad.chain([&paged.behind]).all(|seen| *seen >= 100));
+    assert!(paged.lengths.concat().iter().all(|seen| *seen >= 100));
 }
 
 /// Asks that gates of all kinds and OUTs were tried that a marked INPUT or REG reaches:

@@ -1,4 +1,4 @@
-//! The six calls that are not on codes.
+//! The six calls that check, cycle and double.
 
 use crate::kinds::{AND, CONST, INPUT, MUX, NOT, OR, OUT, REG, XOR};
 use crate::{answers, ffi, image_length, DoubledSize, FirstFlow, Refusal, Verdict};

@@ -5,71 +5,12 @@
 //! as the length beside it says, and a buffer that is written must not overlap
 //! another one. They keep no pointer.
 
-extern "C" {
-    /// Whether an image is a netlist.
-    pub fn tracker_check(image: *const u8, image_length: usize) -> u64;
-    /// Sets each register to its start, or to an untrusted 0 where none is given.
-    pub fn tracker_power_up(
-        image: *const u8,
-        image_length: usize,
-        state: *mut u8,
-        state_length: usize,
-    ) -> u64;
-    /// Takes one clock cycle.
-    pub fn tracker_step(
-        image: *const u8,
-        image_length: usize,
-        state: *mut u8,
-        state_length: usize,
-        row: *const u8,
-        row_length: usize,
-        nets: *mut u8,
-        nets_length: usize,
-    ) -> u64;
-    /// Takes k clock cycles.
-    pub fn tracker_run(
-        image: *const u8,
-        image_length: usize,
-        k: usize,
-        state: *mut u8,
-        state_length: usize,
-        rows: *const u8,
-        rows_length: usize,
-        outputs: *mut u8,
-        outputs_length: usize,
-    ) -> u64;
-    /// Sets each register to the code of its start, which is that of an unknown
-    /// untrusted bit where none is given.
-    pub fn tracker_static_power_up(
-        image: *const u8,
-        image_length: usize,
-        state: *mut u8,
-        state_length: usize,
-    ) -> u64;
-    /// Takes k clock cycles on codes.
-    pub fn tracker_static_run(
-        image: *const u8,
-        image_length: usize,
-        k: usize,
-        state: *mut u8,
-        state_length: usize,
-        rows: *const u8,
-        rows_length: usize,
-        outputs: *mut u8,
-        outputs_length: usize,
-    ) -> u64;
-    /// How many nets the doubled netlist has.
-    pub fn tracker_doubled_size(image: *const u8, image_length: usize) -> u64;
-    /// How many nets of one kind the doubled netlist has.
-    pub fn tracker_doubled_kind(image: *const u8, image_length: usize, kind: usize) -> u64;
-    /// Writes the doubled netlist.
-    pub fn tracker_double(
-        image: *const u8,
-        image_length: usize,
-        buffer: *mut u8,
-        buffer_length: usize,
-    ) -> u64;
-}
+mod declared;
+
+pub use declared::{
+    tracker_check, tracker_double, tracker_doubled_kind, tracker_doubled_size, tracker_page,
+    tracker_power_up, tracker_run, tracker_static_power_up, tracker_static_run, tracker_step,
+};
 
 /// Whether an image is a netlist.
 pub fn check(image: &[u8]) -> u64 {
@@ -185,6 +126,24 @@ pub fn double(image: &[u8], buffer: &mut [u8]) -> u64 {
             image.len(),
             buffer.as_mut_ptr(),
             buffer.len(),
+        )
+    }
+}
+
+/// Writes the pages of a run's outputs.
+pub fn page(image: &[u8], k: usize, record: &[u8], page: &mut [u8]) -> u64 {
+    // SAFETY: Each pointer and length are those of a slice, which is borrowed
+    // until the call returns; the page is borrowed mutably, so it overlaps
+    // nothing.
+    unsafe {
+        tracker_page(
+            image.as_ptr(),
+            image.len(),
+            k,
+            record.as_ptr(),
+            record.len(),
+            page.as_mut_ptr(),
+            page.len(),
         )
     }
 }

@@ -21,6 +21,8 @@
 //!   [`codes::UNKNOWN_TRUSTED`] or [`codes::UNKNOWN_UNTRUSTED`].
 //! - The *doubled netlist* is a netlist in which values and marks are both
 //!   ordinary values, worked out by gates.
+//! - A *record* is the K × O output bytes of a run, and a *page* a text that shows
+//!   64 cycles of it.
 //!
 //! # Calls
 //!
@@ -34,11 +36,12 @@
 //! | [`static_run`] | takes K cycles on codes, for all values of unknown bits | 1 to 10, 12, 14 and 18 |
 //! | [`doubled_size`] | says how big the doubled netlist gets | 1 to 8 and 15 |
 //! | [`double`] | writes the doubled netlist | 1 to 8 and 15 to 17 |
+//! | [`page`] | writes the pages of a record | 1 to 9, 13, 14 and 19 |
 //!
 //! Every call checks the image anew and depends on nothing but what it is lent.
 //! A call that turns back answers with a [`Refusal`] and has changed no lent
 //! byte, except at [`Reason::DoubledRefused`]. Each buffer must have its exact
-//! length, for which [`sizes`] and [`doubled_size`] help.
+//! length, for which [`sizes`], [`doubled_size`] and [`page_length`] help.
 //!
 //! # Images
 //!
@@ -69,6 +72,7 @@ pub mod kinds;
 mod layout;
 mod limits;
 mod net;
+mod page;
 mod reason;
 mod refusal;
 mod sizes;
@@ -82,6 +86,7 @@ pub use image::Image;
 pub use layout::{image_length, kind_place, operand_place};
 pub use limits::{MOST_CYCLES, MOST_NETS};
 pub use net::Net;
+pub use page::{page, page_length};
 pub use reason::Reason;
 pub use refusal::Refusal;
 pub use sizes::{sizes, Sizes};

@@ -41,11 +41,11 @@ pub enum Reason {
     StateByte = 11,
     /// 12: The row's length is not I, or that of a run's rows not K × I.
     RowLength = 12,
-    /// 13: A row byte is above 3. The place is the index of the first one,
-    /// counted through all rows of a run.
+    /// 13: A row byte, or a record's byte, is above 3. The place is the index of
+    /// the first one, counted through all rows of a run or the whole record.
     RowByte = 13,
-    /// 14: The net buffer's length is not N, or that of a run's output buffer
-    /// not K × O.
+    /// 14: The net buffer's length is not N, or that of a run's output buffer or
+    /// of a record not K × O.
     BufferLength = 14,
     /// 15: The doubled netlist has more than 8,192 nets.
     DoubledTooLarge = 15,
@@ -58,10 +58,12 @@ pub enum Reason {
     /// index of the first one, in the state or, if all bytes of that are codes,
     /// in the rows.
     StaticByte = 18,
+    /// 19: The page buffer's length is not that of the pages.
+    PageLength = 19,
 }
 
 /// Every reason of this release, by rising number.
-const REASONS: [Reason; 18] = [
+const REASONS: [Reason; 19] = [
     Reason::ImageTooShort,
     Reason::NetsOutOfRange,
     Reason::ImageLength,
@@ -80,6 +82,7 @@ const REASONS: [Reason; 18] = [
     Reason::DoubledLength,
     Reason::DoubledRefused,
     Reason::StaticByte,
+    Reason::PageLength,
 ];
 
 impl Reason {
@@ -118,12 +121,15 @@ impl Reason {
             Reason::StateLength => "the state's length is not R",
             Reason::StateByte => "a state byte is above 3",
             Reason::RowLength => "the row's length is not I (run: K × I)",
-            Reason::RowByte => "a row byte is above 3",
-            Reason::BufferLength => "the net buffer is not N bytes (run: outputs not K × O)",
+            Reason::RowByte => "a row byte is above 3 (page: a record's byte)",
+            Reason::BufferLength => {
+                "the net buffer is not N bytes (run: outputs, page: record not K × O)"
+            }
             Reason::DoubledTooLarge => "the doubled netlist has more than 8,192 nets",
             Reason::DoubledLength => "the doubled buffer's length is not the doubled image's",
             Reason::DoubledRefused => "the finished doubled image was refused; buffer set to 0",
             Reason::StaticByte => "a state or row byte of a static run is 5 or above 6",
+            Reason::PageLength => "the page buffer's length is not that of the pages",
         }
     }
 }

@@ -12,14 +12,16 @@ use std::fmt;
 /// use tracker::{Reason, Refusal};
 ///
 /// let refusal = Refusal { reason: Reason::RowByte, place: 2 };
-/// assert_eq!(refusal.to_string(), "refusal 13 at index 2: a row byte is above 3");
+/// let text = "refusal 13 at index 2: a row byte is above 3 (page: a record's byte)";
+/// assert_eq!(refusal.to_string(), text);
 /// ```
 #[derive(Debug, Clone, Copy, PartialEq, Eq, Hash)]
 pub struct Refusal {
     /// The condition.
     pub reason: Reason,
     /// The net for the numbers 4 to 7, the index of the first bad byte for 11,
-    /// 13 and 18, and otherwise 0.
+    /// 13 and 18, and otherwise 0. A record is looked through for 13 whatever its
+    /// length, and an index of 2^32 − 1 or more is given as 2^32 − 1.
     pub place: usize,
 }
 

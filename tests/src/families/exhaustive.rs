@@ -1,6 +1,7 @@
 //! All good netlists of 1, 2 and 3 nets, with each pin inverted or not. Each is
-//! stepped from all states on all rows, run, run statically from static power-up, and
-//! doubled; before that its figures are asked for.
+//! stepped from all states on all rows, run, and run statically from static power-up.
+//! Then the pages of a record are written, its figures are asked for, and it is
+//! doubled.
 
 use crate::all::{all_bytes, chosen, Pins};
 use crate::call::Call;
@@ -9,6 +10,7 @@ use crate::counts::Counts;
 use crate::drawing;
 use crate::failure::Outcome;
 use crate::figures::compare_doubling;
+use crate::pages;
 use tracker::{encode, Net};
 
 /// The numbers of netlists of one, two and three nets: for each net as many
@@ -44,6 +46,8 @@ pub fn run(case: &mut Case) -> Outcome {
     case.compare(&image, &mut powered)?;
     let mut run = drawing::static_run(&mut case.random, &counts, 4, &powered.state);
     case.compare(&image, &mut run)?;
+    let mut page = pages::any(&mut case.random, &counts);
+    case.compare(&image, &mut page)?;
     compare_doubling(case, &image, &counts)
 }
 

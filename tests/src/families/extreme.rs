@@ -1,5 +1,6 @@
 //! Runs of 4,096 cycles on netlists of 8,192 nets, with the longest rows,
-//! outputs and states that there can be, and a bad byte at their very ends.
+//! outputs and states that there can be, and a bad byte at their very ends; and the
+//! pages of as many cycles.
 
 use crate::bytes::tracked;
 use crate::call::Call;
@@ -9,6 +10,7 @@ use crate::counts::Counts;
 use crate::drawing;
 use crate::failure::Outcome;
 use crate::netlists;
+use crate::pages;
 use tracker::kinds::{CONST, INPUT, INVERTED, NOT, OUT, REG};
 use tracker::{encode, Net, MOST_CYCLES, MOST_NETS};
 
@@ -34,6 +36,23 @@ pub fn run(case: &mut Case) -> Outcome {
         let run = drawing::static_run(&mut case.random, &counts, MOST_CYCLES, &state);
         with_bad_ends(case, &image, run, 5)?;
     }
+    longest_pages(case, &image, &counts)
+}
+
+/// Writes the pages of 4,096 cycles, and again with a bad byte at the end of the
+/// record, and then with one byte less.
+fn longest_pages(case: &mut Case, image: &[u8], counts: &Counts) -> Outcome {
+    let mut page = pages::page(&mut case.random, counts, MOST_CYCLES);
+    case.compare(image, &mut page)?;
+    if let Some(byte) = page.rows.last_mut() {
+        *byte = 4;
+        case.compare(image, &mut page)?;
+        page.rows.pop();
+        case.compare(image, &mut page)?;
+        page.rows.push(0);
+    }
+    page.filled.pop();
+    case.compare(image, &mut page)?;
     Ok(())
 }
 

@@ -9,6 +9,7 @@ use crate::drawing;
 use crate::failure::Outcome;
 use crate::figures::compare_doubling;
 use crate::netlists;
+use crate::pages;
 use tracker::{encode, Net};
 
 pub fn run(case: &mut Case) -> Outcome {
@@ -18,7 +19,7 @@ pub fn run(case: &mut Case) -> Outcome {
 }
 
 /// Checks a netlist, powers it up, steps and runs from there, steps and runs
-/// from any state, asks for its figures, and doubles it.
+/// from any state, asks for its figures, doubles it, and writes pages.
 pub fn calls(case: &mut Case, nets: &[Net], k: usize) -> Outcome {
     let counts = Counts::of(nets);
     let image = encode(nets);
@@ -28,7 +29,10 @@ pub fn calls(case: &mut Case, nets: &[Net], k: usize) -> Outcome {
     cycles(case, &image, &counts, k, powered.state)?;
     let state = tracked(&mut case.random, counts.registers);
     cycles(case, &image, &counts, k, state)?;
-    compare_doubling(case, &image, &counts)
+    compare_doubling(case, &image, &counts)?;
+    let mut page = pages::any(&mut case.random, &counts);
+    case.compare(&image, &mut page)?;
+    Ok(())
 }
 
 /// Some steps and then a run, with one state.

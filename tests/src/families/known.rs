@@ -2,7 +2,7 @@
 //! property of the library alone.
 
 use crate::bytes::tracked;
-use crate::call::{Call, Name};
+use crate::call::Call;
 use crate::case::Case;
 use crate::coding::{number_of, place_of};
 use crate::counts::Counts;
@@ -10,6 +10,7 @@ use crate::cycles::few;
 use crate::drawing;
 use crate::failure::{Failure, Outcome};
 use crate::faults::{damaged, Fault};
+use crate::name::Name;
 use crate::netlists;
 use tracker::encode;
 

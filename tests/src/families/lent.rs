@@ -2,19 +2,27 @@
 //! several at once.
 
 use crate::bytes::tracked;
-use crate::call::{Call, Name};
+use crate::call::Call;
 use crate::case::Case;
 use crate::codes;
 use crate::counts::Counts;
 use crate::cycles::few;
 use crate::drawing;
 use crate::failure::Outcome;
+use crate::name::Name;
 use crate::netlists;
+use crate::pages;
 use tracker::encode;
 
 /// The calls of one case in five, which are static, and those of the others.
 const STATIC: &[Name] = &[Name::StaticPowerUp, Name::StaticRun];
-const OTHERS: &[Name] = &[Name::PowerUp, Name::Step, Name::Run, Name::Double];
+const OTHERS: &[Name] = &[
+    Name::PowerUp,
+    Name::Step,
+    Name::Run,
+    Name::Double,
+    Name::Page,
+];
 
 pub fn run(case: &mut Case) -> Outcome {
     let nets = netlists::mostly_small(&mut case.random, 150);
@@ -52,5 +60,6 @@ fn right_call(case: &mut Case, counts: &Counts, name: Name) -> Call {
             let k = few(random);
             drawing::static_run(random, counts, k, &state)
         }
+        Name::Page => pages::any(random, counts),
     }
 }

@@ -15,6 +15,7 @@ mod lent;
 mod lists;
 mod noise;
 mod operands;
+mod page_texts;
 mod pairing;
 mod static_gates;
 mod static_runs;
@@ -33,7 +34,7 @@ pub struct Family {
 
 /// All families. The last six try properties of the library alone.
 #[rustfmt::skip]
-pub static FAMILIES: [Family; 19] = [
+pub static FAMILIES: [Family; 20] = [
     Family { name: "exhaustive", cases: exhaustive::CASES, run: exhaustive::run },
     Family { name: "four_nets", cases: four_nets::CASES, run: four_nets::run },
     Family { name: "operands", cases: operands::CASES, run: operands::run },
@@ -47,6 +48,7 @@ pub static FAMILIES: [Family; 19] = [
     Family { name: "doubling", cases: 8_000, run: doubling::run },
     Family { name: "static_gates", cases: static_gates::CASES, run: static_gates::run },
     Family { name: "static_runs", cases: 15_000, run: static_runs::run },
+    Family { name: "page_texts", cases: 30_000, run: page_texts::run },
     Family { name: "pairing", cases: 20_000, run: pairing::run },
     Family { name: "two_runs", cases: 20_000, run: two_runs::run },
     Family { name: "steps", cases: 40_000, run: steps::run },

@@ -82,6 +82,7 @@ const fn altered<const INDEX: usize>() -> Calls {
         double: double::<INDEX>,
         static_power_up: static_power_up::<INDEX>,
         static_run: run::<INDEX, true>,
+        page: page::<INDEX>,
     }
 }
 
@@ -136,6 +137,14 @@ unsafe extern "C" fn static_power_up<const INDEX: usize>(
     image: *const u8, il: usize, state: *mut u8, sl: usize,
 ) -> u64 {
     (LIBRARY.static_power_up)(copy::<INDEX>(image, il).as_ptr(), il, state, sl)
+}
+
+#[rustfmt::skip]
+unsafe extern "C" fn page<const INDEX: usize>(
+    image: *const u8, il: usize, k: usize, record: *const u8, rl: usize,
+    page: *mut u8, pl: usize,
+) -> u64 {
+    (LIBRARY.page)(copy::<INDEX>(image, il).as_ptr(), il, k, record, rl, page, pl)
 }
 
 unsafe extern "C" fn doubled_size<const INDEX: usize>(image: *const u8, il: usize) -> u64 {

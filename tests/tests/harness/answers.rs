@@ -128,6 +128,7 @@ pub const TURNS_ALL_BACK: Calls = Calls {
     double: no_power_up,
     static_power_up: no_power_up,
     static_run: no_run,
+    page: no_page,
 };
 
 extern "C" fn no_check(_: *const u8, _: usize) -> u64 {
@@ -146,6 +147,13 @@ extern "C" fn no_power_up(_: *const u8, _: usize, _: *mut u8, _: usize) -> u64 {
 extern "C" fn no_step(
     _: *const u8, _: usize, _: *mut u8, _: usize,
     _: *const u8, _: usize, _: *mut u8, _: usize,
+) -> u64 {
+    3 * ONE
+}
+
+#[rustfmt::skip]
+extern "C" fn no_page(
+    _: *const u8, _: usize, _: usize, _: *const u8, _: usize, _: *mut u8, _: usize,
 ) -> u64 {
     3 * ONE
 }

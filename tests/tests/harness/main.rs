@@ -10,6 +10,9 @@ mod doubling;
 mod figures;
 mod lent_bytes;
 mod order;
+mod page_refusals;
+mod page_table;
+mod page_texts;
 mod parts;
 mod rules;
 mod static_calls;
@@ -17,6 +20,7 @@ mod static_rules;
 mod table;
 mod waking;
 
+use page_table::PAGE_STAND_INS;
 use table::{StandIn, STAND_INS};
 use tests::{named, run_case, run_family, Failure, Family, Tally, FAMILIES, LIBRARY};
 
@@ -27,6 +31,11 @@ const MOST_CASES: u64 = 5000;
 /// those whose cases take long with fewer.
 const FEW_CASES: u64 = 100;
 const FEWER_CASES: u64 = 5;
+
+/// All stand-ins.
+fn stand_ins() -> impl Iterator<Item = &'static StandIn> {
+    STAND_INS.iter().chain(&PAGE_STAND_INS)
+}
 
 /// Runs the first cases of a family with a stand-in.
 fn tried(stand_in: &StandIn, family: &Family, cases: u64) -> Option<Box<Failure>> {
@@ -51,7 +60,7 @@ fn can_be_run_again(stand_in: &StandIn, family: &Family, failure: &Failure) {
 
 #[test]
 fn every_stand_in_is_caught() {
-    for stand_in in &STAND_INS {
+    for stand_in in stand_ins() {
         for name in stand_in.caught_by {
             let family = named(name).expect("a family of this name");
             let failure = tried(stand_in, family, MOST_CASES);
@@ -67,7 +76,7 @@ fn every_stand_in_is_caught() {
 /// that does. Families that do not have to catch it are tried shortly.
 #[test]
 fn which_family_catches_which() {
-    for stand_in in &STAND_INS {
+    for stand_in in stand_ins() {
         let mut caught = Vec::new();
         for family in &FAMILIES {
             let has_to = stand_in.caught_by.contains(&family.name);

@@ -1,5 +1,5 @@
-//! All broken stand-ins, with the families that have to catch them and what
-//! their reports have to show.
+//! Broken stand-ins, with the families that have to catch them and what their
+//! reports have to show: those for all calls but the one that writes pages.
 
 use crate::{altered, answers, cycles, doubled_bits, doubling, figures};
 use crate::{lent_bytes, order, rules, static_calls, static_rules, waking};
@@ -12,7 +12,7 @@ pub struct StandIn {
     pub shows: fn(&Failure) -> bool,
 }
 
-const fn stand_in(
+pub const fn stand_in(
     name: &'static str,
     calls: Calls,
     caught_by: &'static [&'static str],
@@ -27,7 +27,7 @@ const fn stand_in(
 }
 
 /// The two answers differ, or a property of the answer does not hold.
-fn answer(failure: &Failure) -> bool {
+pub fn answer(failure: &Failure) -> bool {
     failure.property.is_some() || (failure.expected.is_some() && differs(failure))
 }
 
@@ -36,21 +36,21 @@ fn differs(failure: &Failure) -> bool {
 }
 
 /// The numbers of the refusals are equal and their places differ.
-fn place(failure: &Failure) -> bool {
+pub fn place(failure: &Failure) -> bool {
     let number = failure.expected.map(|expected| expected >> 32);
     differs(failure) && number == Some(failure.answer >> 32)
 }
 
 /// The answers are equal and a lent byte differs, or a property of the lent
 /// bytes does not hold.
-fn lent_byte(failure: &Failure) -> bool {
+pub fn lent_byte(failure: &Failure) -> bool {
     let spot = failure.byte.map(|byte| byte.spot);
     let inside = matches!(spot, Some(Spot::Inside(_)));
     failure.property.is_some() || (inside && !differs(failure))
 }
 
 /// After a refusal a lent byte differs.
-fn refused(failure: &Failure) -> bool {
+pub fn refused(failure: &Failure) -> bool {
     failure.answer >> 32 != 0 && failure.byte.is_some()
 }
 
@@ -60,7 +60,7 @@ fn anything(failure: &Failure) -> bool {
 }
 
 /// Where the first differing byte stands.
-fn at(failure: &Failure) -> Option<(&'static str, Spot)> {
+pub fn at(failure: &Failure) -> Option<(&'static str, Spot)> {
     failure.byte.map(|byte| (byte.buffer, byte.spot))
 }
 

@@ -1,22 +1,15 @@
-//! Planned inputs: the document's example, files of all lengths, rows in
-//! pieces, and sizes at the limits.
+//! Planned inputs: the document's example, and those that every program is given.
 
-use std::time::Duration;
-
-use crate::compare::{expected, same};
-use crate::counter::counter;
-use crate::program::{list, Pieces};
-use tests::bytes::tracked;
-use tests::random::Random;
-use tracker::kinds::{AND, CONST, INPUT, INVERTED, OUT, REG};
-use tracker::{encode, operand_place, Net, MOST_NETS};
-
-const PIECES: [usize; 4] = [1, 7, 4095, 1 << 20];
+use crate::PROGRAM;
+use tests::programs::planned::{self, PIECES};
+use tests::programs::{counter, Pieces};
+use tracker::kinds::{AND, INPUT, INVERTED, OUT, REG};
+use tracker::{encode, operand_place, Net};
 
 /// The program prints these lines of an image on the rows 2, 0, 1, 0.
 fn prints(image: &[u8], lines: &str) {
     for size in PIECES {
-        let ended = list(Some(image), &[2, 0, 1, 0], Pieces::of(size));
+        let ended = PROGRAM.run(Some(image), &[2, 0, 1, 0], Pieces::of(size));
         assert_eq!(String::from_utf8_lossy(&ended.lines), lines);
         assert_eq!(ended.said, "");
         assert!(ended.status.success());
@@ -70,99 +63,33 @@ fn inverted_at_the_clock_and_at_the_out() {
 
 #[test]
 fn missing_short_and_long_files() {
-    let good = encode(&vec![Net::new(INPUT, 0, 0, 0); MOST_NETS]);
-    let rows = vec![1; 2 * MOST_NETS];
-    same(None, &rows, Pieces::of(4095));
-    for length in [0, 1, 7, 8, 57_351, 57_352] {
-        same(Some(&good[..length]), &rows, Pieces::of(4095));
-    }
-    for more in [1, 2, 7, 8, 4096, 65_536, 1_000_000] {
-        let long = [&good[..], &vec![0; more]].concat();
-        same(Some(&long), &rows, Pieces::of(4095));
-    }
-    for size in [8193, 8194, 16_384, 65_535] {
-        let too_many = encode(&vec![Net::new(CONST, 0, 0, 0); size]);
-        same(Some(&too_many), &rows, Pieces::of(4095));
-    }
+    planned::missing_short_and_long_files(&PROGRAM);
 }
 
-/// Rows that come slowly, byte by byte, so that a read gives a part of a row.
 #[test]
 fn rows_in_slow_pieces() {
-    let nets = [
-        Net::new(INPUT, 0, 0, 0),
-        Net::new(INPUT, 0, 0, 0),
-        Net::new(INPUT, 0, 0, 0),
-        Net::new(OUT, 2, 1, 0),
-        Net::new(OUT, 0, 0, 0),
-    ];
-    for (length, size) in [(12, 1), (13, 1), (14, 2), (15, 4), (0, 1)] {
-        let rows = tracked(&mut Random::new(length as u64), length);
-        let pieces = Pieces {
-            size,
-            pause: Duration::from_millis(5),
-        };
-        same(Some(&encode(&nets)), &rows, pieces);
-    }
+    planned::rows_in_slow_pieces(&PROGRAM);
 }
 
 #[test]
 fn short_rows_and_bad_bytes() {
-    let image = encode(&[Net::new(INPUT, 0, 0, 0); 3]);
-    let rows: [&[u8]; 8] = [
-        &[0],
-        &[0, 1, 2, 3],
-        &[0, 1, 2, 3, 255],
-        &[4, 0, 0, 0, 0, 0],
-        &[0, 0, 0, 0, 0, 48],
-        &[0, 0, 0, 255, 255, 255],
-        &[0, 9],
-        &[],
-    ];
-    for rows in rows {
-        for size in PIECES {
-            same(Some(&image), rows, Pieces::of(size));
-        }
-    }
+    planned::short_rows_and_bad_bytes(&PROGRAM);
 }
 
-/// Without inputs there is no row, whatever the input holds. Without outputs a
-/// line has a dash.
+/// Without outputs a line has a dash.
 #[test]
 fn no_inputs_and_no_outputs() {
-    let no_inputs = encode(&[Net::new(REG, 0, 1, 0), Net::new(OUT, 0, 1, 0)]);
-    let no_outputs = encode(&[Net::new(INPUT, 0, 0, 0)]);
-    let neither = encode(&[Net::new(CONST, 1, 0, 0)]);
-    for image in [no_inputs, no_outputs, neither] {
-        for rows in [&[][..], &[0][..], &[3, 2, 1, 0, 3][..], &[7][..]] {
-            same(Some(&image), rows, Pieces::of(7));
-        }
-    }
+    planned::no_inputs_and_no_outputs(&PROGRAM);
 }
 
 /// Lines of thousands of digits, and rows of thousands of bytes.
 #[test]
 fn thousands_of_outputs_and_inputs() {
-    let random = &mut Random::new(1);
-    let mut outs = vec![Net::new(OUT, 0, 0, 0); MOST_NETS];
-    outs[0] = Net::new(INPUT, 0, 0, 0);
-    outs[5000] = Net::new(OUT, 0, 1, 0);
-    same(Some(&encode(&outs)), &tracked(random, 300), Pieces::of(7));
-    let mut inputs = vec![Net::new(INPUT, 0, 0, 0); MOST_NETS];
-    inputs[MOST_NETS - 1] = Net::new(OUT, MOST_NETS as u16 - 2, 1, 0);
-    let rows = tracked(random, 50 * (MOST_NETS - 1));
-    for size in [4095, 8191, 65_536] {
-        same(Some(&encode(&inputs)), &rows, Pieces::of(size));
-    }
-    same(Some(&encode(&inputs)), &rows[1..], Pieces::of(4095));
+    planned::thousands_of_outputs_and_inputs(&PROGRAM, 50);
 }
 
 /// Far more lines than any buffer holds, in all pieces.
 #[test]
 fn many_cycles() {
-    let rows = tracked(&mut Random::new(2), 20_000);
-    assert!(expected(Some(&counter()), &rows).len() > 200_000);
-    for size in PIECES {
-        same(Some(&counter()), &rows, Pieces::of(size));
-    }
+    planned::many_cycles(&PROGRAM, 200_000);
 }

@@ -4,8 +4,8 @@ use super::*;
 use crate::Refusal;
 
 #[test]
-fn the_numbers_1_to_18_each_have_a_reason() {
-    for (number, reason) in (1..=18).zip(REASONS) {
+fn the_numbers_1_to_19_each_have_a_reason() {
+    for (number, reason) in (1..=19).zip(REASONS) {
         assert_eq!(reason.number(), number);
         assert_eq!(Reason::from_number(number), Some(reason));
     }
@@ -13,7 +13,7 @@ fn the_numbers_1_to_18_each_have_a_reason() {
 
 #[test]
 fn no_other_number_has_one() {
-    for number in [0, 19, 26, u32::MAX] {
+    for number in [0, 20, 26, u32::MAX] {
         assert_eq!(Reason::from_number(number), None);
     }
 }
@@ -48,5 +48,9 @@ fn a_refusal_says_its_place_where_it_has_one() {
     assert_eq!(
         words(Reason::StaticByte, 7),
         "refusal 18 at index 7: a state or row byte of a static run is 5 or above 6"
+    );
+    assert_eq!(
+        words(Reason::PageLength, 0),
+        "refusal 19: the page buffer's length is not that of the pages"
     );
 }

@@ -1,11 +1,12 @@
 //! The two lists made again on the doubled netlist: its plain values.
 
 use super::List;
-use crate::call::{Call, Name};
+use crate::call::Call;
 use crate::case::Case;
 use crate::coding::number_of;
 use crate::doubled::{split, Doubled};
 use crate::failure::{Failure, Outcome};
+use crate::name::Name;
 
 /// Makes two accepted calls again on the doubled netlist. In each cycle the
 /// values at output 2j + 1 are equal in both, and where these are 0, the values

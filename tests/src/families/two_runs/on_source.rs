@@ -2,11 +2,12 @@
 
 use super::List;
 use crate::bytes::first_disagreement;
-use crate::call::{Call, Name};
+use crate::call::Call;
 use crate::case::Case;
 use crate::coding::number_of;
 use crate::counts::Counts;
 use crate::failure::{Failure, Outcome};
+use crate::name::Name;
 use crate::replay::{same_as_run, steps};
 
 /// The cycles of longer runs are not made again by steps.

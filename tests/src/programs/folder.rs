@@ -1,4 +1,4 @@
-//! Folders of their own for the program, removed in the end.
+//! Folders of their own for a program, removed in the end.
 
 use std::fs;
 use std::path::{Path, PathBuf};
@@ -13,11 +13,12 @@ pub struct Folder {
 }
 
 impl Folder {
-    /// A folder that holds this net.bin, or nothing.
-    pub fn with(image: Option<&[u8]>) -> Folder {
+    /// A folder within another one, for the program of this name. It holds this
+    /// net.bin, or nothing.
+    pub fn with(folders: &str, program: &str, image: Option<&[u8]>) -> Folder {
         let number = MADE.fetch_add(1, Ordering::Relaxed);
-        let name = format!("listing-{}-{number}", process::id());
-        let path = Path::new(env!("CARGO_TARGET_TMPDIR")).join(name);
+        let name = format!("{program}-{}-{number}", process::id());
+        let path = Path::new(folders).join(name);
         if path.exists() {
             fs::remove_dir_all(&path).expect("an old folder is removed");
         }

@@ -3,16 +3,13 @@
 use std::env;
 use std::time::Duration;
 
-use crate::compare::difference;
-use crate::program::Pieces;
-use tests::bytes::{spoil, tracked};
-use tests::faults::{damaged, Fault};
-use tests::netlists::mostly_small;
-use tests::printing::hex;
-use tests::random::Random;
+use crate::bytes::{spoil, tracked};
+use crate::faults::{damaged, Fault};
+use crate::netlists::mostly_small;
+use crate::printing::hex;
+use crate::programs::program::{Pieces, Program};
+use crate::random::Random;
 use tracker::{encode, Net, Sizes};
-
-const CASES: u64 = 400;
 
 /// What one case gives to the program.
 struct Given {
@@ -21,8 +18,8 @@ struct Given {
     pieces: Pieces,
 }
 
-fn draw(seed: u64) -> Given {
-    let random = &mut Random::of_case("listing", seed);
+fn draw(program: &Program, seed: u64) -> Given {
+    let random = &mut Random::of_case(program.name, seed);
     let nets = mostly_small(random, 20);
     let image = draw_image(random, &nets);
     let rows = draw_rows(random, Sizes::of(&nets).inputs);
@@ -65,41 +62,43 @@ fn draw_rows(random: &mut Random, inputs: usize) -> Vec<u8> {
     rows
 }
 
-fn report(seed: u64, text: &str) -> String {
+fn report(name: &str, seed: u64, text: &str) -> String {
     format!(
-        "\nfamily listing, seed {seed}\n{text}\nrun it again: TRACKER_CASE=listing:{seed} \
+        "\nfamily {name}, seed {seed}\n{text}\nrun it again: TRACKER_CASE={name}:{seed} \
          cargo test --offline -p tests one_case -- --nocapture\n"
     )
 }
 
-#[test]
-fn random_netlists_and_rows() {
-    for seed in 0..CASES {
-        let given = draw(seed);
-        let difference = difference(given.image.as_deref(), &given.rows, given.pieces);
-        if let Some(text) = difference {
-            panic!("{}", report(seed, &text));
-        }
+/// Runs the program in so many cases.
+pub fn random_netlists_and_rows(program: &Program, cases: u64) {
+    for seed in 0..cases {
+        run(program, seed, &draw(program, seed));
     }
 }
 
-/// Runs the case that TRACKER_CASE names, if it is one of the listing.
-#[test]
-fn one_case() {
+/// Asks for the reference's lines in one case.
+fn run(program: &Program, seed: u64, given: &Given) {
+    let difference = program.difference(given.image.as_deref(), &given.rows, given.pieces);
+    if let Some(text) = difference {
+        panic!("{}", report(program.name, seed, &text));
+    }
+}
+
+/// Runs the case that TRACKER_CASE names, if it is one of the program.
+pub fn one_case(program: &Program) {
     let wanted = env::var("TRACKER_CASE").unwrap_or_default();
-    let seed = match wanted.strip_prefix("listing:") {
-        Some(seed) => seed.parse().expect("TRACKER_CASE is listing:seed"),
-        None => return,
+    let seed = match wanted.split_once(':') {
+        Some((name, seed)) if name == program.name => {
+            seed.parse().expect("TRACKER_CASE is name:seed")
+        }
+        _ => return,
     };
-    let given = draw(seed);
+    let given = draw(program, seed);
     match &given.image {
         Some(image) => println!("net.bin {}", hex(image)),
         None => println!("no net.bin"),
     }
     println!("rows {} in {:?}", hex(&given.rows), given.pieces);
-    let difference = difference(given.image.as_deref(), &given.rows, given.pieces);
-    if let Some(text) = difference {
-        panic!("{}", report(seed, &text));
-    }
+    run(program, seed, &given);
     println!("the case has passed");
 }

@@ -7,16 +7,15 @@ use std::io::{Read, Write};
 use std::process::{ChildStdin, ChildStdout, Command};
 use std::thread;
 
-use crate::counter::counter;
-use crate::folder::Folder;
-use crate::program::{command, command_without_signal, said, wait, SHORT};
+use crate::programs::counter::counter;
+use crate::programs::program::{said, wait, Program, SHORT};
 
 /// Gives rows until the program takes no more.
 fn give_for_ever(mut input: ChildStdin) {
     while input.write_all(&[0; 1000]).is_ok() {}
 }
 
-/// Reads so many bytes of the lines and then closes the pipe.
+/// Reads so many bytes of what is printed and then closes the pipe.
 fn read_some(output: Option<ChildStdout>, length: usize) {
     if let Some(mut output) = output {
         let mut bytes = vec![0; length];
@@ -24,7 +23,7 @@ fn read_some(output: Option<ChildStdout>, length: usize) {
     }
 }
 
-/// Starts the program, reads so many bytes of its lines, closes the pipe, and
+/// Starts the program, reads so many bytes of what it prints, closes the pipe, and
 /// waits for the end. The answer is what the program says on standard error; its
 /// exit status is of no account.
 fn ends_after(mut command: Command, length: usize) -> String {
@@ -39,22 +38,21 @@ fn ends_after(mut command: Command, length: usize) -> String {
     said(&mut child)
 }
 
-#[test]
-fn a_closed_pipe_ends_the_program() {
-    let folder = Folder::with(Some(&counter()));
+/// The pipe is closed before anything is read of it, early, and late.
+pub fn a_closed_pipe_ends_it(program: &Program) {
+    let folder = program.folder(Some(&counter()));
     for length in [0, 1, 100_000] {
-        assert_eq!(ends_after(command(&folder), length), "");
-        let said = ends_after(command_without_signal(&folder), length);
+        assert_eq!(ends_after(program.command(&folder), length), "");
+        let said = ends_after(program.command_without_signal(&folder), length);
         assert_eq!(said, "standard output: Broken pipe\n");
     }
 }
 
-#[test]
-#[cfg(target_os = "linux")]
-fn a_full_device_ends_the_program() {
-    let folder = Folder::with(Some(&counter()));
+/// The program prints to a device that is always full, which Linux has.
+pub fn a_full_device_ends_it(program: &Program) {
+    let folder = program.folder(Some(&counter()));
     let full = OpenOptions::new().write(true).open("/dev/full");
-    let mut command = command(&folder);
+    let mut command = program.command(&folder);
     command.stdout(full.expect("the full device is opened"));
     let said = ends_after(command, 0);
     assert_eq!(said, "standard output: No space left on device\n");
