@@ -1,15 +1,15 @@
-//! Builds what is linked beside the library: the peer in C, where clang is there,
+//! Builds what is linked beside the library: the peers in C, where clang is there,
 //! and another build of the library, where TRACKER_OTHER names its folder.
 
 use std::env;
 use std::path::{Path, PathBuf};
 use std::process::{self, Command};
 
-/// The source of the peer in C.
-const SOURCE: &str = "c/lists.c";
+/// The sources of the peers in C, each c/NAME.c.
+const SOURCES: [&str; 2] = ["lists", "pages"];
 
 /// The calls of the library.
-const CALLS: [&str; 9] = [
+const CALLS: [&str; 10] = [
     "check",
     "power_up",
     "step",
@@ -19,35 +19,45 @@ const CALLS: [&str; 9] = [
     "doubled_size",
     "doubled_kind",
     "double",
+    "page",
 ];
 
 fn main() {
     println!("cargo:rerun-if-changed=build.rs");
-    println!("cargo:rustc-check-cfg=cfg(c_peer, other, other_size, other_static)");
+    println!("cargo:rustc-check-cfg=cfg(c_peer, other, other_page, other_size, other_static)");
     let out = env::var_os("OUT_DIR").expect("cargo sets OUT_DIR");
-    compile_peer(Path::new(&out));
+    compile_peers(Path::new(&out));
     rename_other(Path::new(&out));
     let rustc = env::var("RUSTC").expect("cargo sets RUSTC");
     let version = version_of(&rustc).expect("the version of rustc");
     println!("cargo:rustc-env=RUSTC_VERSION={version}");
 }
 
-/// Compiles the peer in C by clang, or by the compiler that CLANG names. Where
-/// there is none the peer is left out.
-fn compile_peer(out: &Path) {
+/// Compiles the peers in C by clang, or by the compiler that CLANG names. Where
+/// there is none they are left out.
+fn compile_peers(out: &Path) {
     println!("cargo:rerun-if-env-changed=CLANG");
-    println!("cargo:rerun-if-changed={SOURCE}");
+    for name in SOURCES {
+        println!("cargo:rerun-if-changed={}", source(name));
+    }
     let clang = env::var("CLANG").unwrap_or_else(|_| "clang".to_string());
     let Some(version) = version_of(&clang) else {
         return;
     };
-    let object = out.join("lists.o");
-    let mut compile = Command::new(&clang);
-    compile.args(["-O3", "-fPIC", "-c", SOURCE, "-o"]);
-    assert_succeeds(compile.arg(&object));
-    println!("cargo:rustc-link-arg-bins={}", object.display());
+    for name in SOURCES {
+        let object = out.join(name).with_extension("o");
+        let mut compile = Command::new(&clang);
+        compile.args(["-O3", "-fPIC", "-c", &source(name), "-o"]);
+        assert_succeeds(compile.arg(&object));
+        println!("cargo:rustc-link-arg-bins={}", object.display());
+    }
     println!("cargo:rustc-cfg=c_peer");
     println!("cargo:rustc-env=CLANG_VERSION={version}");
+}
+
+/// The source of a peer in C.
+fn source(name: &str) -> String {
+    format!("c/{name}.c")
 }
 
 /// Renames the calls of the other build: tracker_NAME becomes other_NAME.
@@ -68,6 +78,9 @@ fn rename_other(out: &Path) {
     }
     if has_call(&archive, "tracker_static_run") {
         println!("cargo:rustc-cfg=other_static");
+    }
+    if has_call(&archive, "tracker_page") {
+        println!("cargo:rustc-cfg=other_page");
     }
     println!("cargo:rustc-link-search=native={}", out.display());
     println!("cargo:rustc-link-lib=static=other");

@@ -106,7 +106,7 @@ fn check_lent(
 }
 
 /// Refusal `number` where there are not `length` bytes.
-fn check_length(number: u64, bytes: &[u8], length: usize) -> Result<(), u64> {
+pub fn check_length(number: u64, bytes: &[u8], length: usize) -> Result<(), u64> {
     match bytes.len() == length {
         true => Ok(()),
         false => Err(refusal(number, 0)),
@@ -116,7 +116,7 @@ fn check_length(number: u64, bytes: &[u8], length: usize) -> Result<(), u64> {
 /// Refusal `number` where a byte is not taken. The first pass has no early end, so
 /// that many bytes are tested at once.
 #[inline(always)]
-fn check_bytes(number: u64, bytes: &[u8], is_taken: impl Fn(u8) -> bool) -> Result<(), u64> {
+pub fn check_bytes(number: u64, bytes: &[u8], is_taken: impl Fn(u8) -> bool) -> Result<(), u64> {
     if bytes.iter().fold(false, |bad, byte| bad | !is_taken(*byte)) {
         let first = bytes.iter().position(|byte| !is_taken(*byte)).unwrap_or(0);
         return Err(refusal(number, first));

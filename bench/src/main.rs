@@ -3,7 +3,8 @@
 //! Without arguments: all tables of the library and its peers. Each can be printed
 //! alone: `run` (times), `counts` (instructions and mispredicted branches of a
 //! run), `once` (runs of one cycle), `static` (static runs beside plain ones),
-//! `calls` (instructions of each call), `linear` (check, doubled_size and double).
+//! `calls` (instructions of each call), `linear` (check, doubled_size and double),
+//! `pages` (times and instructions of page).
 //! `forms`: times and counts of the forms of src/forms. `count ..`: work for
 //! valgrind to count. `netlist MIX NETS SEED CYCLES FOLDER` and `listing MIX NETS
 //! SEED ROWS FOLDER`: files for the hardware tools.
@@ -34,6 +35,7 @@ mod mix;
 mod once;
 #[cfg(other)]
 mod other;
+mod pages;
 mod peer;
 mod peers;
 mod pins;
@@ -56,11 +58,14 @@ use forms::FORMS;
 use mix::Mix;
 use peers::PEERS;
 
-const USAGE: &str = "usage: bench [run | counts | once | static | calls | linear | forms | \
+const USAGE: &str =
+    "usage: bench [run | counts | once | static | calls | linear | pages | forms | \
     netlist MIX NETS SEED CYCLES FOLDER | listing MIX NETS SEED ROWS FOLDER]";
 
 /// The tables of the library and its peers.
-const TABLES: [&str; 6] = ["run", "counts", "once", "static", "calls", "linear"];
+const TABLES: [&str; 7] = [
+    "run", "counts", "once", "static", "calls", "linear", "pages",
+];
 
 fn main() {
     let arguments: Vec<String> = env::args().skip(1).collect();
@@ -99,6 +104,7 @@ fn print_tables(tables: &[&str]) {
             }
             "static" => statics::print_tables(),
             "calls" => calls::print_counts(),
+            "pages" => pages::print_tables(),
             _ => {
                 linear::print_checking();
                 linear::print_sizing();
@@ -130,6 +136,9 @@ fn count(words: &[&str]) {
         }
         ["call", name, mix, library, times] => {
             calls::some_calls(name, named_mix(mix), library, number(times));
+        }
+        ["pages", case, writer, times] => {
+            pages::some_calls(number(case), writer, number(times));
         }
         _ => fail(USAGE),
     }

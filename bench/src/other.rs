@@ -50,6 +50,16 @@ extern "C" {
         buffer: *mut u8,
         buffer_length: usize,
     ) -> u64;
+    #[cfg(other_page)]
+    fn other_page(
+        image: *const u8,
+        image_length: usize,
+        k: usize,
+        record: *const u8,
+        record_length: usize,
+        page: *mut u8,
+        page_length: usize,
+    ) -> u64;
 }
 
 // SAFETY, for each of the calls below: each pointer and length are those of a
@@ -137,6 +147,22 @@ pub fn double(image: &[u8], buffer: &mut [u8]) -> u64 {
             image.len(),
             buffer.as_mut_ptr(),
             buffer.len(),
+        )
+    }
+}
+
+/// The pages. They are there only where the other build has the call.
+#[cfg(other_page)]
+pub fn page(image: &[u8], k: usize, record: &[u8], page: &mut [u8]) -> u64 {
+    unsafe {
+        other_page(
+            image.as_ptr(),
+            image.len(),
+            k,
+            record.as_ptr(),
+            record.len(),
+            page.as_mut_ptr(),
+            page.len(),
         )
     }
 }
