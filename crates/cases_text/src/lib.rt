@@ -2,8 +2,8 @@
 mod filling;
 mod images;
 mod numbers;
+mod places;
 mod print;
-mod text;
 mod words;
 
 pub use filling::list;
@@ -12,12 +12,12 @@ pub use images::say_image;
 pub use images::say_whether_changed;
 pub use numbers::Numeral;
 pub use numbers::number;
+pub use places::byte_at;
+pub use places::next;
+pub use places::until;
 pub use print::say;
 pub use print::say_bytes;
 pub use print::say_lines;
 pub use print::say_number;
 pub use print::say_text;
-pub use text::byte_at;
-pub use text::next;
-pub use text::until;
 pub use words::has_unknown_word;

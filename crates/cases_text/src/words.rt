@@ -1,8 +1,8 @@
 // Words, which are known by their first letter.
+use crate::places::byte_at;
+use crate::places::next;
+use crate::places::until;
 use crate::print::say;
-use crate::text::byte_at;
-use crate::text::next;
-use crate::text::until;
 
 // The place behind the first word from p on that has this letter and stands behind this mark: behind a blank, up to the end of the line; behind the end of
 // a line, up to the end of the text. With no such word it is the end of the text.

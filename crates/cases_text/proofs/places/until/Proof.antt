@@ -1,9 +1,9 @@
--- `cases_text::text::until` is safe and ends.
+-- `cases_text::places::until` is safe and ends.
 use Prim.Native.Nat.{_-_}
 use lib.ListN.{length}
 use borrow.Author.Needs.{needs}
-use Rattle.cases_text.proofs.text.until.Statement.{statement}
-use Rattle.cases_text.proofs.text.until.Tie as tie
+use Rattle.cases_text.proofs.places.until.Statement.{statement}
+use Rattle.cases_text.proofs.places.until.Tie as tie
 
 abbrev Inv-loop : tie.InvT-loop
 Inv-loop t p b i₀ i = Unit {0}
