@@ -40,4 +40,5 @@ pub mod StaticPlain
 pub mod Plainly
 pub mod Upright
 pub mod Page
+pub mod PageExamples
 pub mod Promised

@@ -33,6 +33,7 @@ use Rattle.claims.proofs.StaticRuns
 use Rattle.claims.proofs.StaticBytes
 use Rattle.claims.proofs.StaticPlain
 use Rattle.claims.proofs.Page
+use Rattle.claims.proofs.PageExamples
 use Rattle.claims.proofs.Upright
 
 pub promised : Promised
@@ -90,5 +91,6 @@ promised =
       page-heading = Page.page-heading;
       page-net = Page.page-net;
       page-sign = Page.page-sign;
+      page-examples = PageExamples.page-examples;
       upright = Upright.upright;
     }

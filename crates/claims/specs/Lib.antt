@@ -29,4 +29,5 @@ pub mod StaticPlain
 pub mod Plain
 pub mod Upright
 pub mod Page
+pub mod PageExamples
 pub mod Promised

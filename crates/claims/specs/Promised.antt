@@ -31,6 +31,7 @@ use Rattle.claims.specs.StaticRuns.{StaticSound, StaticWakes, StaticRuns
 use Rattle.claims.specs.StaticBytes.{StaticClear, StaticPowerUpAll}
 use Rattle.claims.specs.StaticPlain.{StaticPlain}
 use Rattle.claims.specs.Page.{PageShape, PageHeading, PageNet, PageSign}
+use Rattle.claims.specs.PageExamples.{PageExamples}
 use Rattle.claims.specs.Upright.{Uprights}
 
 pub record Promised : Type 0 where
@@ -141,5 +142,7 @@ pub record Promised : Type 0 where
   pub page-net : PageNet
   -- In the line of an output, on the page of a cycle, stands the sign of its byte in that cycle, in the cycle's column: 0, 1, and l, h for untrusted 0, 1. Behind the last cycle there are blanks.
   pub page-sign : PageSign
+  -- Some pages, as the text that a reader sees: the counter's, two outputs, two pages, no outputs, no cycles.
+  pub page-examples : PageExamples
   -- IMAGES WITHOUT INVERTED PINS (document 02, L3) give by every call what they gave before, and the doubled image of before; and all images that were accepted before are such.
   pub upright : Uprights

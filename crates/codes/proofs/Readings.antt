@@ -10,8 +10,8 @@ use Rattle.refusals.specs.declared.answer.Refusal.{Refusal}
 use Rattle.cycle.specs.Cycle.{Verdict, clear, flow, FirstFlow}
 use Rattle.cycle.specs.Calls.{Answer, done}
 use Rattle.paging.specs.Paging.{pageOf}
-use Rattle.codes.specs.Codes.{refusalCode, lowPlace, outcomeCode, pageCode, verdictCode, firstFlowCode, answerCode}
-use Rattle.codes.specs.Readings.{refusalRead, outcomeRead, lowPlaces, verdictRead, stepRead, firstFlowRead, runRead, figureRead, CodesRead}
+use Rattle.codes.specs.Codes.{refusalCode, lowPlace, lowPlaces, outcomeCode, pageCode, verdictCode, firstFlowCode, answerCode}
+use Rattle.codes.specs.Readings.{refusalRead, outcomeRead, verdictRead, stepRead, firstFlowRead, runRead, figureRead, CodesRead}
 use Rattle.codes.proofs.Given.{Tabled, Given, no, one, check-given, powered-up-given, static-powered-up-given, doubled-given, PageGiven, wrote, turned, page-given, page-low}
 use Rattle.codes.proofs.Small.{Naming, no-net, names, Among, Answered, gave, turned-back, step-answered, run-answered, static-run-answered, size-answered, kind-answered, naming-small, among-small}
 

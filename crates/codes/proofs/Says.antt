@@ -184,8 +184,12 @@ says =
       double-kept = λ s buf h. let t = turned-outcome _ h in promised .unchanged .double s buf (t .refusal) (t .is);
       page-kept = λ s k outputs buf h. let t = turned-pages _ h in promised .unchanged .page s k outputs buf (t .refusal) (t .is);
       page-written = λ s k outputs buf h.
-          let w = pages-written (page-given s k outputs buf) h in
-          (promised .page-shape s k outputs buf w, λ c j l m. promised .page-sign s k outputs buf w c j l m);
+          let w = pages-written (page-given s k outputs buf) h in (
+            promised .page-shape s k outputs buf w,
+            promised .page-heading s k outputs buf w,
+            promised .page-net s k outputs buf w,
+            promised .page-sign s k outputs buf w,
+          );
       doubled-size = λ s buf h l. size-is s buf _ refl h l;
       doubled-turned = λ s buf k. size-turned s buf k _ refl;
       doubled-kind = λ s buf k l h. kind-is s buf k l (is-done s buf h);

@@ -21,9 +21,12 @@ outcomeCode (some r) = refusalCode r
 abbrev pub lowPlace : Refusal → Refusal
 lowPlace r = refusal (r .number) (min (r .place) 4294967295)
 
+abbrev pub lowPlaces : Option Refusal → Option Refusal
+lowPlaces none = none
+lowPlaces (some r) = some (lowPlace r)
+
 abbrev pub pageCode : Option Refusal → ℕ
-pageCode none = 0
-pageCode (some r) = refusalCode (lowPlace r)
+pageCode o = outcomeCode (lowPlaces o)
 
 -- a verdict: 65,535 for clear, which is no net's number, and its net for a flow
 abbrev pub verdictCode : Verdict → ℕ

@@ -15,7 +15,7 @@ use Rattle.figures.specs.Figures.{doubledSizeOf}
 use Rattle.doubling.specs.Doubling.{doubleOf}
 use Rattle.static_run.specs.StaticCalls.{staticPowerUpOf, staticRunOf}
 use Rattle.paging.specs.Paging.{pageOf}
-use Rattle.codes.specs.Codes.{refusalCode, lowPlace, outcomeCode, pageCode, verdictCode, firstFlowCode, figureAnswer, answerCode, sizeCode, kindCode}
+use Rattle.codes.specs.Codes.{refusalCode, lowPlaces, outcomeCode, pageCode, verdictCode, firstFlowCode, figureAnswer, answerCode, sizeCode, kindCode}
 
 -- a refusal: its number stands above its place
 abbrev pub refusalRead : ℕ → Refusal
@@ -24,11 +24,6 @@ refusalRead n = refusal (n / 2 ^ 32) (n % 2 ^ 32)
 -- check, power-up and doubling: a number below 2^32 says that the call is done
 abbrev pub outcomeRead : ℕ → Option Refusal
 outcomeRead n = cond (ltb n (2 ^ 32)) none (some (refusalRead n))
-
--- the refusal that is read from the number of pages: its place is given up to 2^32 − 1
-abbrev pub lowPlaces : Option Refusal → Option Refusal
-lowPlaces none = none
-lowPlaces (some r) = some (lowPlace r)
 
 -- a verdict: 65,535 is clear, and every other number a flow at that net
 abbrev pub verdictRead : ℕ → Verdict

@@ -16,7 +16,8 @@ use Rattle.claims.specs.Refused.{AnyCall, Refused}
 use Rattle.claims.specs.Verdicts.{MarkedOutput}
 use Rattle.claims.specs.PowerUp.{Wakes}
 use Rattle.claims.specs.InBytes.{SameMarks, StaysClear}
-use Rattle.claims.specs.Page.{Shape, Sign, pages}
+use Rattle.claims.specs.NetBytes.{netOf}
+use Rattle.claims.specs.Page.{Shape, Heading, NetNumber, Sign, pages}
 use Rattle.paging.specs.Paging.{pageOf}
 use Rattle.codes.specs.Codes.{outcomeCode, pageCode, verdictCode, firstFlowCode, answerCode, sizeCode, kindCode}
 
@@ -38,10 +39,12 @@ pub record NumbersSay : Type 0 where
       → (staticRunOf s st k rows outputs .state ≡ st) × (staticRunOf s st k rows outputs .outputs ≡ outputs)
   pub double-kept : (s buf : List ℕ) → 2 ^ 32 ≤ outcomeCode (doubleOf s buf .refusal) → doubleOf s buf .buffer ≡ buf
   pub page-kept : (s : List ℕ) (k : ℕ) (outputs buf : List ℕ) → 2 ^ 32 ≤ pageCode (pageOf s k outputs buf .refusal) → pageOf s k outputs buf .page ≡ buf
-  -- pages answer 0: the buffer has the pages' shape, and the sign of every output in every cycle at its place
+  -- pages answer 0: the buffer has the pages' shape, their headings, the net number of every OUT on every page, and the sign of every output in every cycle at its place
   pub page-written :
       (s : List ℕ) (k : ℕ) (outputs buf : List ℕ) → pageCode (pageOf s k outputs buf .refusal) ≡ 0
       → Shape s k outputs (pageOf s k outputs buf .page)
+      × ((p : ℕ) → p < pages k → Heading s k outputs (pageOf s k outputs buf .page) p)
+      × ((p i : ℕ) → p < pages k → i < sizesOf s .nets → netOf s i .kind ≡ 8 → NetNumber s k outputs (pageOf s k outputs buf .page) p i)
       × ((c j : ℕ) → c < pages k * 64 → j < sizesOf s .outputs → Sign s k outputs (pageOf s k outputs buf .page) c j)
   -- a doubled size below 2^32: doubling accepts a buffer of 8 + 7 × as many bytes, and writes that many nets
   pub doubled-size :

@@ -1,27 +1,29 @@
 -- The promises about pages, used in full: together they leave one text, and a call whose image, record and buffer are as they should be writes it.
-use Prim.Native.Nat.{ℕ, zero, suc, _+_, _-_, _*_, _/_, _%_, _≤_, _<_}
+use Prim.Native.Nat.{ℕ, zero, suc, _+_, _-_, _*_, _/_, _%_, _≤_, _<_, min}
 use native.Mathlib.Omega.{arith}
-use native.Mathlib.Nat.{mul-assoc, div-lt-iff-lt-mul, mod-lt, div-add-mod', mul-le-mul, add-mul, one-mul, div-mul-le-self}
+use native.Mathlib.Nat.{zero-mul, min-eq-left, mul-assoc, div-lt-iff-lt-mul, mod-lt, div-add-mod', mul-le-mul, add-mul, one-mul, div-mul-le-self}
 use mathlib.Core.Logic.{_⊎_, inl, inr, ⊎-elim}
 use mathlib.Core.Path.{_≡_, refl, ap, sym, _∙_}
 use mathlib.Core.Bool.{Bool, true, false}
-use mathlib.Core.List.{List}
+use mathlib.Core.List.{List, [], _∷_, _++_}
 use mathlib.Core.Option.{none, some}
 use lib.Dec.{ltb}
-use lib.ListN.{length, getD}
+use lib.ListN.{length, getD, replicate}
 use lib.Seq.{ext-getD}
 use borrow.Author.Tests.{ltb-true, ltb-false}
 use Rattle.image.specs.Image.{sizesOf, net, netsOf}
+use Rattle.image.specs.Examples.{counter, crossed, oneInput}
 use Rattle.refusals.specs.Refusals.{refusal}
 use Rattle.cycle.proofs.Selections.{place-found}
 use Rattle.text.specs.Decimal.{decimal}
-use Rattle.paging.specs.Paging.{pageRefusal, pageOf}
+use Rattle.paging.specs.Paging.{Paged, pageRefusal, pageOf}
 use Rattle.paging.proofs.PageCalls.{page-accepted}
-use Rattle.claims.specs.Accepted.{AcceptedImage, NoneAbove3, AcceptedRecord, pagesBytes}
-use Rattle.claims.specs.Refused.{page, FirstAbove3, Refused, many-page-cycles, record-byte, record-size, page-size}
+use Rattle.claims.specs.Accepted.{AcceptedImage, NoneAbove3, AcceptedRecord}
+use Rattle.claims.specs.Refused.{page, FirstAbove3, BadImage, Refused, bad-image, many-page-cycles, record-byte, record-size, page-size}
 use Rattle.claims.specs.NetBytes.{netOf, placeOf}
 use Rattle.claims.specs.Page.{Written, Shape, Heading, NetNumber, Sign, pages, lineAt, byteAt}
 use Rattle.claims.proofs.Promised.{promised}
+use Rattle.codes.specs.Codes.{pageCode}
 
 -- below or not
 split : (i n : ℕ) → (i < n) ⊎ (n ≤ i)
@@ -139,11 +141,29 @@ module _ (s : List ℕ) (k : ℕ) (outputs : List ℕ) (a : AcceptedImage s) (r 
   one-text = ext-getD 0 x y (f .shape .size ∙ sym (g .shape .size)) placed
 
 -- WHAT THE CALL WRITES is that text, where image, record and buffer are as they should be
-pub held-page : (s : List ℕ) (k : ℕ) (outputs buf text : List ℕ) → AcceptedImage s → k ≤ 4096 → AcceptedRecord s k outputs → length buf ≡ pagesBytes s k
-    → Promises s k outputs text → pageOf s k outputs buf .page ≡ text
-held-page s k outputs buf text a h r l t =
-    let w : pageRefusal s k outputs buf ≡ none = promised .when-accepted .page s k outputs buf .1 (a, h, r, l) in
-    one-text s k outputs a r (written s k outputs buf (rw (page-accepted s k outputs buf w))) t
+accepted : (s : List ℕ) (k : ℕ) (outputs buf : List ℕ) → AcceptedImage s → k ≤ 4096 → NoneAbove3 outputs → length outputs ≡ k * sizesOf s .outputs
+    → length buf ≡ (k + 63) / 64 * ((1 + sizesOf s .outputs) * 71) → Written s k outputs buf
+accepted s k outputs buf a h c l m =
+    let w : pageRefusal s k outputs buf ≡ none = promised .when-accepted .page s k outputs buf .1 (a, h, record { codes = c; size = l }, m) in
+    rw (page-accepted s k outputs buf w)
+
+pub held-page : (s : List ℕ) (k : ℕ) (outputs buf text : List ℕ) → AcceptedImage s → k ≤ 4096 → NoneAbove3 outputs → length outputs ≡ k * sizesOf s .outputs
+    → length buf ≡ (k + 63) / 64 * ((1 + sizesOf s .outputs) * 71) → Promises s k outputs text
+    → (pageOf s k outputs buf .refusal ≡ none) × (pageOf s k outputs buf .page ≡ text)
+held-page s k outputs buf text a h c l m t =
+    let w = accepted s k outputs buf a h c l m in
+    (w, one-text s k outputs a (record { codes = c; size = l }) (written s k outputs buf w) t)
+
+-- no cycle gives no page
+pub held-none : (s : List ℕ) → AcceptedImage s → pageOf s 0 [] [] ≡ record { refusal = none; page = [] }
+held-none s a =
+    let w = accepted s 0 [] [] a (omega arith) (λ i h. absurd (omega arith)) (omega (arith, zero-mul (sizesOf s .outputs))) (omega (arith, zero-mul ((1 + sizesOf s .outputs) * 71))) in
+    let size : length (pageOf s 0 [] [] .page) ≡ 0 = promised .page-shape s 0 [] [] w .size ∙ omega (arith, zero-mul (1 + sizesOf s .outputs)) in
+    rw (w, empty (pageOf s 0 [] [] .page) size)
+  where
+    empty : (xs : List ℕ) → length xs ≡ 0 → xs ≡ []
+    empty [] h = refl
+    empty (x ∷ xs) h = absurd (omega arith)
 
 -- the pages hold all cycles, and no line has a newline within it
 pub held-lines : (s : List ℕ) (k : ℕ) (outputs buf : List ℕ) → Written s k outputs buf
@@ -153,13 +173,44 @@ held-lines s k outputs buf w =
     let t = promised .page-shape s k outputs buf w in
     (t .all, t .no-more, λ p l i h m n e. let c = t .printed p l i h m n in omega arith)
 
--- a bad byte draws 13 whatever the record's length and the buffer; then the record's length draws 14, and the buffer's 19
-pub held-order : (s : List ℕ) (k : ℕ) (outputs buf : List ℕ) → AcceptedImage s
-    → (4096 < k → pageOf s k outputs buf .refusal ≡ some (refusal 9 0))
-    × ((i : ℕ) → k ≤ 4096 → FirstAbove3 outputs i → pageOf s k outputs buf .refusal ≡ some (refusal 13 i))
-    × (k ≤ 4096 → NoneAbove3 outputs → (length outputs ≡ k * sizesOf s .outputs → ⊥) → pageOf s k outputs buf .refusal ≡ some (refusal 14 0))
-    × (k ≤ 4096 → AcceptedRecord s k outputs → (length buf ≡ pagesBytes s k → ⊥) → pageOf s k outputs buf .refusal ≡ some (refusal 19 0))
-held-order s k outputs buf a =
-    let draws : (number place : ℕ) → Refused s (page k outputs buf) number place → pageOf s k outputs buf .refusal ≡ some (refusal number place) =
-    λ number place h. promised .refusals s (page k outputs buf) (refusal number place) .1 h in
-    (λ l. draws 9 0 (many-page-cycles a l), λ i l w. draws 13 i (record-byte a l w), λ l c h. draws 14 0 (record-size a l c h), λ l r h. draws 19 0 (page-size a l r h))
+-- the examples, each with its text
+pub held-examples : (pageOf counter 4 (0 ∷ 3 ∷ 2 ∷ 0 ∷ []) (replicate 142 9) .refusal ≡ none) × (pageOf crossed 2 (2 ∷ 1 ∷ 0 ∷ 3 ∷ []) (replicate 213 9) .refusal ≡ none)
+    × (pageOf crossed 65 (replicate 128 1 ++ 2 ∷ 3 ∷ []) (replicate 426 9) .refusal ≡ none) × (pageOf oneInput 65 [] (replicate 142 9) .refusal ≡ none)
+    × (pageOf counter 0 [] [] .page ≡ []) × (pageOf counter 1 (0 ∷ 4 ∷ []) (9 ∷ []) .page ≡ 9 ∷ [])
+held-examples =
+    let e = promised .page-examples in
+    (ap (λ (p : Paged). p .refusal) (e .counter-page), ap (λ (p : Paged). p .refusal) (e .two-outputs), ap (λ (p : Paged). p .refusal) (e .two-pages), ap (λ (p : Paged). p .refusal) (e .no-outputs), ap (λ (p : Paged). p .page) (e .no-cycles), ap (λ (p : Paged). p .page) (e .bad-byte))
+
+-- REFUSALS, each with all that may apply beside it: the number and place, the number for C, and the buffer as it was
+pub record Drawn (s : List ℕ) (k : ℕ) (outputs buf : List ℕ) (number place : ℕ) : Type 0 where
+  pub refused : pageOf s k outputs buf .refusal ≡ some (refusal number place)
+  pub code : place < 4294967296 → pageCode (pageOf s k outputs buf .refusal) ≡ number * 4294967296 + place
+  pub kept : pageOf s k outputs buf .page ≡ buf
+
+drawn : {s : List ℕ} {k : ℕ} {outputs buf : List ℕ} {number place : ℕ} → Refused s (page k outputs buf) number place → Drawn s k outputs buf number place
+drawn {s} {k} {outputs} {buf} {number} {place} h =
+    let e = promised .refusals s (page k outputs buf) (refusal number place) .1 h in
+    record {
+      refused = e;
+      code = λ l. let low : min place 4294967295 ≡ place = min-eq-left (omega arith) in rw (e, low);
+      kept = promised .unchanged .page s k outputs buf (refusal number place) e;
+    }
+
+-- the image comes first, then K; a bad byte draws 13 whatever the record's length and the buffer; then come the record's length and the buffer's
+pub held-order : (s : List ℕ) (k : ℕ) (outputs buf : List ℕ)
+    → ((number place : ℕ) → BadImage s number place → Drawn s k outputs buf number place)
+    × (AcceptedImage s → 4096 < k → Drawn s k outputs buf 9 0)
+    × ((i : ℕ) → AcceptedImage s → k ≤ 4096 → FirstAbove3 outputs i → Drawn s k outputs buf 13 i)
+    × (AcceptedImage s → k ≤ 4096 → NoneAbove3 outputs → (length outputs ≡ k * sizesOf s .outputs → ⊥) → Drawn s k outputs buf 14 0)
+    × (AcceptedImage s → k ≤ 4096 → NoneAbove3 outputs → length outputs ≡ k * sizesOf s .outputs → (length buf ≡ (k + 63) / 64 * ((1 + sizesOf s .outputs) * 71) → ⊥) → Drawn s k outputs buf 19 0)
+held-order s k outputs buf = (
+  λ number place b. drawn (bad-image b),
+  λ a l. drawn (many-page-cycles a l),
+  λ i a l w. drawn (record-byte a l w),
+  λ a l c h. drawn (record-size a l c h),
+  λ a l c m h. drawn (page-size a l (record { codes = c; size = m }) h),
+)
+
+-- the number of pages that are written is 0
+pub held-done : (s : List ℕ) (k : ℕ) (outputs buf : List ℕ) → Written s k outputs buf → pageCode (pageOf s k outputs buf .refusal) ≡ 0
+held-done s k outputs buf w = rw w

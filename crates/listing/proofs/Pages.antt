@@ -3,7 +3,7 @@ use mathlib.Core.Path.{refl}
 use Rattle.gates.specs.Rules.{value, mark, byte, andMark, notByte, andByte, gateByte}
 use Rattle.image.specs.Image.{sizesOf, netAt, netsFrom, netsOf, count}
 use Rattle.image.specs.Pins.{pinNet}
-use Rattle.image.specs.Examples.{counter, crossed}
+use Rattle.image.specs.Examples.{counter, crossed, oneInput, oneConst}
 use Rattle.refusals.specs.Refusals.{badByte, badLength}
 use Rattle.net_checking.specs.NetCheck.{netRefusal}
 use Rattle.checking.specs.Check.{netsRefusal, checkRefusal}
@@ -13,7 +13,7 @@ use Rattle.text.specs.Decimal.{digitsUpTo, decimal}
 use Rattle.listing_text.specs.Lines.{outputDigits, cycleLine, endLine, refusedLine}
 use Rattle.listing_rows.specs.Rows.{rowsUpTo}
 use Rattle.listing.specs.Listing.{linesOf, listingText}
-use Rattle.listing.specs.Pages.{badNet, oneInput, oneConst, delay, Pages}
+use Rattle.listing.specs.Pages.{badNet, delay, Pages}
 
 -- what is computed with
 checking : Unit {0}

@@ -2,7 +2,7 @@
 use Prim.Native.Nat.{ℕ}
 use mathlib.Core.Path.{_≡_}
 use mathlib.Core.List.{List, [], _∷_, _++_}
-use Rattle.image.specs.Examples.{counter, crossed}
+use Rattle.image.specs.Examples.{counter, crossed, oneInput, oneConst}
 use Rattle.text.specs.Ascii.{ascii}
 use Rattle.listing.specs.Listing.{listingText}
 
@@ -15,14 +15,6 @@ badNet =
     ++ (0 ∷ 0 ∷ 0 ∷ 0 ∷ 0 ∷ 0 ∷ [])
     ++ (0 ∷ 0 ∷ 0 ∷ 0 ∷ 0 ∷ 0 ∷ [])
     ++ (3 ∷ 0 ∷ 0 ∷ 0 ∷ 0 ∷ 0 ∷ [])
-
--- 0 INPUT, and no other net
-unfoldable pub oneInput : List ℕ
-oneInput = (1 ∷ 0 ∷ 1 ∷ 0 ∷ 0 ∷ 0 ∷ 0 ∷ 0 ∷ []) ++ (1 ∷ []) ++ (0 ∷ 0 ∷ 0 ∷ 0 ∷ 0 ∷ 0 ∷ [])
-
--- 0 CONST 1, and no other net
-unfoldable pub oneConst : List ℕ
-oneConst = (1 ∷ 0 ∷ 0 ∷ 0 ∷ 0 ∷ 0 ∷ 0 ∷ 0 ∷ []) ++ (0 ∷ []) ++ (1 ∷ 0 ∷ 0 ∷ 0 ∷ 0 ∷ 0 ∷ [])
 
 -- 0 INPUT; 1 REG(0, start 1); 2 OUT 1, protected
 unfoldable pub delay : List ℕ

@@ -4,7 +4,7 @@ use Rattle.gates.specs.Rules.{value, mark, byte, andMark, notByte, andByte, gat
 use Rattle.image.specs.Image.{sizesOf, netAt, netsFrom, netsOf, count}
 use Rattle.image.specs.Pins.{pinNet}
 use Rattle.image.specs.Places.{placesFrom}
-use Rattle.image.specs.Examples.{counter, crossed}
+use Rattle.image.specs.Examples.{counter, crossed, oneInput, oneConst}
 use Rattle.refusals.specs.Refusals.{badByte, badLength}
 use Rattle.net_checking.specs.NetCheck.{netRefusal}
 use Rattle.checking.specs.Check.{netsRefusal, checkRefusal}
@@ -16,7 +16,7 @@ use Rattle.listing_text.specs.Lines.{refusedLine}
 use Rattle.page_text.specs.Pages.{setLeft, setRight, line, heading, sign, outputBytes, outputLine, outputLines, pageText, pagesText, pageCount}
 use Rattle.page_turns.specs.PagesOf.{rowsTaken, rowsRefusal, cyclePages, pagesFrom}
 use Rattle.pages.specs.Printed.{pagesPrinted}
-use Rattle.pages.specs.Examples.{oneInput, oneConst, Examples}
+use Rattle.pages.specs.Examples.{Examples}
 
 -- what is computed with
 checking : Unit {0}
@@ -44,6 +44,7 @@ examples =
       refused-image = refl;
       no-inputs = refl;
       two-pages = refl;
+      two-outputs = refl;
       short-row = refl;
       bad-byte = refl;
     }

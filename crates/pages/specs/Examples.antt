@@ -3,17 +3,9 @@ use Prim.Native.Nat.{ℕ}
 use mathlib.Core.Path.{_≡_}
 use mathlib.Core.List.{List, [], _∷_, _++_}
 use lib.ListN.{replicate}
-use Rattle.image.specs.Examples.{counter, crossed}
+use Rattle.image.specs.Examples.{counter, crossed, oneInput, oneConst}
 use Rattle.text.specs.Ascii.{ascii}
 use Rattle.pages.specs.Printed.{pagesPrinted}
-
--- 0 INPUT, and no other net
-unfoldable pub oneInput : List ℕ
-oneInput = (1 ∷ 0 ∷ 1 ∷ 0 ∷ 0 ∷ 0 ∷ 0 ∷ 0 ∷ []) ++ (1 ∷ []) ++ (0 ∷ 0 ∷ 0 ∷ 0 ∷ 0 ∷ 0 ∷ [])
-
--- 0 CONST 1, and no other net
-unfoldable pub oneConst : List ℕ
-oneConst = (1 ∷ 0 ∷ 0 ∷ 0 ∷ 0 ∷ 0 ∷ 0 ∷ 0 ∷ []) ++ (0 ∷ []) ++ (1 ∷ 0 ∷ 0 ∷ 0 ∷ 0 ∷ 0 ∷ [])
 
 -- proved as `examples`
 pub record Examples : Type 0 where
@@ -31,6 +23,11 @@ pub record Examples : Type 0 where
   pub two-pages : pagesPrinted oneInput (replicate 65 1)
       ≡ ascii "cycle 0                                                               \n"
       ++ ascii "cycle 64                                                              \n"
+  -- two cycles of two outputs: a line has one output in all cycles
+  pub two-outputs : pagesPrinted crossed (1 ∷ 2 ∷ 3 ∷ 0 ∷ [])
+      ≡ ascii "cycle 0                                                               \n"
+      ++ ascii "    2 l0                                                              \n"
+      ++ ascii "    3 1h                                                              \n"
   -- the second row is short, with one byte for two inputs: the first is on the page, and 12 is the last line
   pub short-row : pagesPrinted crossed (1 ∷ 2 ∷ 0 ∷ [])
       ≡ ascii "cycle 0                                                               \n"
