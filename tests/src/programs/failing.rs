@@ -1,5 +1,6 @@
 //! Rows from streams whose reads fail.
 
+use std::fs::{self, File};
 use std::io::Write;
 use std::os::unix::io::OwnedFd;
 use std::os::unix::net::UnixStream;
@@ -40,4 +41,22 @@ pub fn failing(bytes: &[u8]) -> (UnixStream, Stdio) {
     ours.write_all(bytes).expect("the bytes are given");
     its.set_nonblocking(true).expect("reads do not wait");
     (ours, Stdio::from(OwnedFd::from(its)))
+}
+
+/// A folder in place of the rows: nothing is printed.
+pub fn rows_from_a_folder(program: &Program) {
+    let folder = program.folder(Some(&two_inputs()));
+    let rows = File::open(folder.path()).expect("the folder is opened");
+    let (printed, said) = from_rows(program, &folder, Stdio::from(rows));
+    assert_eq!(printed, "");
+    assert_eq!(said, "standard input: Is a directory\n");
+}
+
+/// A folder of that name can be opened and not read, and counts as 0 bytes.
+pub fn a_folder_for_net_bin(program: &Program) {
+    let folder = program.folder(None);
+    fs::create_dir(folder.path().join("net.bin")).expect("a folder is made");
+    let (printed, said) = from_rows(program, &folder, Stdio::null());
+    assert_eq!(printed, "refused 1 0\n");
+    assert_eq!(said, "net.bin: Is a directory\n");
 }

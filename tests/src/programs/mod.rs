@@ -14,7 +14,7 @@ mod waiting;
 
 pub use closed::{a_closed_pipe_ends_it, a_full_device_ends_it};
 pub use counter::{counter, register_after, Rows};
-pub use failing::{failing, from_rows, two_inputs};
+pub use failing::{a_folder_for_net_bin, failing, from_rows, rows_from_a_folder, two_inputs};
 pub use folder::Folder;
 pub use long::{many_cycles_in_little_memory, Expected, CYCLES};
 pub use program::{said, wait, Ended, Pieces, Program, SHORT};

@@ -1,11 +1,8 @@
 //! Reads that fail. What failed is said on standard error, with the system's
 //! reason; where the rows fail, the lines so far stay and there is no last line.
 
-use std::fs::{self, File};
-use std::process::Stdio;
-
 use crate::PROGRAM;
-use tests::programs::{failing, from_rows, two_inputs};
+use tests::programs::{self, failing, from_rows, two_inputs};
 
 /// A failure within a row is no short row: it draws no 12.
 #[test]
@@ -26,19 +23,10 @@ fn a_read_of_rows_fails() {
 
 #[test]
 fn rows_from_a_folder() {
-    let folder = PROGRAM.folder(Some(&two_inputs()));
-    let rows = File::open(folder.path()).expect("the folder is opened");
-    let (printed, said) = from_rows(&PROGRAM, &folder, Stdio::from(rows));
-    assert_eq!(printed, "");
-    assert_eq!(said, "standard input: Is a directory\n");
+    programs::rows_from_a_folder(&PROGRAM);
 }
 
-/// A folder of that name can be opened and not read, and counts as 0 bytes.
 #[test]
 fn a_folder_for_net_bin() {
-    let folder = PROGRAM.folder(None);
-    fs::create_dir(folder.path().join("net.bin")).expect("a folder is made");
-    let (printed, said) = from_rows(&PROGRAM, &folder, Stdio::null());
-    assert_eq!(printed, "refused 1 0\n");
-    assert_eq!(said, "net.bin: Is a directory\n");
+    programs::a_folder_for_net_bin(&PROGRAM);
 }
