@@ -99,6 +99,10 @@ module _ {k : ℕ} {list : ℕ → List Net → List ℕ} {byte : ℕ → Net �
   pub pass-ends : n ≤ i → buffer ≡ list 0 (netsOf s)
   pass-ends h = fill-ends (rw (nets-done s n i (omega arith), selection .none i) at (p .bytes))
 
+  -- all bytes then stand in it
+  pub pass-all : n ≤ i → j ≡ length buffer
+  pass-all h = let r = rw (nets-done s n i (omega arith), selection .none i) at (p .bytes .room) in omega arith
+
   -- while a byte is missing, a net is left
   pub pass-below : j < length buffer → i < n
   pass-below h =

@@ -3,6 +3,7 @@ pub mod Deciding
 pub mod Selections
 pub mod Walks
 pub mod Cycles
+pub mod States
 pub mod Calls
 pub mod Filling
 pub mod Runs

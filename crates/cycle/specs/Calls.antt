@@ -3,6 +3,7 @@ use Prim.Native.Nat.{ℕ, _*_}
 use mathlib.Core.List.{List}
 use mathlib.Core.Option.{Option, none, some}
 use lib.Dec.{eqb, ltb}
+use lib.ListN.{take}
 use Rattle.gates.specs.Rules.{byte}
 use Rattle.image.specs.declared.image.Sizes.{Sizes}
 use Rattle.image.specs.declared.image.Net.{Net}
@@ -10,11 +11,8 @@ use Rattle.image.specs.Image.{sizesOf, netsOf}
 use Rattle.refusals.specs.declared.answer.Refusal.{Refusal}
 use Rattle.refusals.specs.Refusals.{refuse, _then_, Alphabet, plainBytes, badByte, badLength}
 use Rattle.checking.specs.Check.{checkRefusal}
+use Rattle.cycle.specs.State.{stateLength, withCount, registersIn, miscounted}
 use Rattle.cycle.specs.Cycle.{plain, Verdict, registers, Cycle, cycleOf, cyclesOf, outputsOf, stateAfter, FirstFlow, firstFlow}
-
--- the length of a state: one byte for each register
-abbrev pub stateLength : Sizes → ℕ
-stateLength z = z .registers
 
 -- the answer of a call that has a result
 pub data Answer (A : Type 0) : Type 0 where
@@ -41,16 +39,21 @@ powerUpRefusal s st = checkRefusal s then badLength 10 (stateLength (sizesOf s))
 unfoldable pub powerUpOf : (s st : List ℕ) → PoweredUp
 powerUpOf s st =
     elim (powerUpRefusal s st) [
-      | none ↦ record { refusal = none; state = starts (netsOf s) }
+      | none ↦ record { refusal = none; state = withCount (starts (netsOf s)) }
       | some r ↦ record { refusal = some r; state = st }
     ]
 
--- 10 to 14, by the bytes that a call takes, and by the numbers of bytes that it wants in the state, in its rows and in the buffer that it fills
-abbrev pub lentRefusal : Alphabet → (stateBytes rowBytes filled : ℕ) (st rows buffer : List ℕ) → Option Refusal
-lentRefusal bytes stateBytes rowBytes filled st rows buffer =
-    badLength 10 stateBytes st
-    then badByte (bytes .bad) (bytes .in-state) 0 st
-    then badLength 12 rowBytes rows
+-- 10, 11 and 20: "condition 10 means R + 2 and 11 looks at the first R bytes alone", and 20 "directly after 11"
+unfoldable pub stateRefusal : Sizes → (st : List ℕ) → Option Refusal
+stateRefusal z st =
+    badLength 10 (stateLength z) st
+    then badByte (plainBytes .bad) (plainBytes .in-state) 0 (take (z .registers) st)
+    then refuse (miscounted (z .registers) st) 20 0
+
+-- 12 to 14, by the bytes that a call takes, and by the numbers of bytes that it wants in its rows and in the buffer that it fills
+abbrev pub lentRefusal : Alphabet → (rowBytes filled : ℕ) (rows buffer : List ℕ) → Option Refusal
+lentRefusal bytes rowBytes filled rows buffer =
+    badLength 12 rowBytes rows
     then badByte (bytes .bad) (bytes .in-rows) 0 rows
     then badLength 14 filled buffer
 
@@ -62,18 +65,19 @@ pub record Stepped : Type 0 where
 
 -- an accepted step, from its cycle
 unfoldable pub asStep : Cycle → Stepped
-asStep c = record { answer = done (c .verdict); state = c .state; nets = c .bytes }
+asStep c = record { answer = done (c .verdict); state = withCount (c .state); nets = c .bytes }
 
--- 1 to 8 and 10 to 14
+-- 1 to 8, 10, 11, 20, and 12 to 14
 unfoldable pub stepRefusal : (s st row nets : List ℕ) → Option Refusal
 stepRefusal s st row nets =
     checkRefusal s
-    then lentRefusal plainBytes (stateLength (sizesOf s)) (sizesOf s .inputs) (sizesOf s .nets) st row nets
+    then stateRefusal (sizesOf s) st
+    then lentRefusal plainBytes (sizesOf s .inputs) (sizesOf s .nets) row nets
 
 unfoldable pub stepOf : (s st row nets : List ℕ) → Stepped
 stepOf s st row nets =
     elim (stepRefusal s st row nets) [
-      | none ↦ asStep (cycleOf plain (netsOf s) row st)
+      | none ↦ asStep (cycleOf plain (netsOf s) row (registersIn s st))
       | some r ↦ record { answer = refused r; state = st; nets = nets }
     ]
 
@@ -83,20 +87,25 @@ pub record Ran : Type 0 where
   pub state : List ℕ
   pub outputs : List ℕ
 
--- an accepted run from the state st, from its cycles
-unfoldable pub asRun : (st : List ℕ) → List Cycle → Ran
-asRun st cs = record { answer = done (firstFlow 0 cs); state = stateAfter st cs; outputs = outputsOf cs }
+-- an accepted run from the register bytes rs, from its cycles; here its state is the register bytes after the last of them alone
+unfoldable pub asRun : (rs : List ℕ) → List Cycle → Ran
+asRun rs cs = record { answer = done (firstFlow 0 cs); state = stateAfter rs cs; outputs = outputsOf cs }
 
--- 1 to 14
+-- the same with the count of the marked registers behind them
+unfoldable pub counting : Ran → Ran
+counting o = record { answer = o .answer; state = withCount (o .state); outputs = o .outputs }
+
+-- 1 to 9, 10, 11, 20, and 12 to 14
 unfoldable pub runRefusal : (s st : List ℕ) (k : ℕ) (rows outputs : List ℕ) → Option Refusal
 runRefusal s st k rows outputs =
     checkRefusal s
     then refuse (ltb 4096 k) 9 0
-    then lentRefusal plainBytes (stateLength (sizesOf s)) (k * sizesOf s .inputs) (k * sizesOf s .outputs) st rows outputs
+    then stateRefusal (sizesOf s) st
+    then lentRefusal plainBytes (k * sizesOf s .inputs) (k * sizesOf s .outputs) rows outputs
 
 unfoldable pub runOf : (s st : List ℕ) (k : ℕ) (rows outputs : List ℕ) → Ran
 runOf s st k rows outputs =
     elim (runRefusal s st k rows outputs) [
-      | none ↦ asRun st (cyclesOf plain (netsOf s) (sizesOf s .inputs) k rows st)
+      | none ↦ let rs = registersIn s st in counting (asRun rs (cyclesOf plain (netsOf s) (sizesOf s .inputs) k rows rs))
       | some r ↦ record { answer = refused r; state = st; outputs = outputs }
     ]

@@ -86,7 +86,7 @@ registers f (x ∷ xs) = cond (eqb (x .kind) REG) (f x ∷ registers f xs) (regi
 unfoldable pub clocked : Rule → List Net → (bs : List ℕ) → List ℕ
 clocked rule xs bs = registers (λ x. pinByte rule bs (x .a)) xs
 
--- what a cycle gives: the bytes of all nets, the verdict, the output bytes, and the state after the clock
+-- what a cycle gives: the bytes of all nets, the verdict, the output bytes, and the register bytes after the clock. In this file a state is the register bytes alone
 pub record Cycle : Type 0 where
   pub bytes : List ℕ
   pub verdict : Verdict
@@ -111,7 +111,7 @@ unfoldable pub outputsOf : List Cycle → List ℕ
 outputsOf [] = []
 outputsOf (c ∷ cs) = c .outputs ++ outputsOf cs
 
--- the state after the last cycle, or st where there is none
+-- the register bytes after the last cycle, or st where there is none
 unfoldable pub stateAfter : (st : List ℕ) → List Cycle → List ℕ
 stateAfter st [] = st
 stateAfter st (c ∷ cs) = stateAfter (c .state) cs

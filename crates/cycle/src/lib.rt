@@ -6,4 +6,6 @@ pub use answer::FirstFlow;
 pub use answer::RunAnswer;
 pub use answer::StepAnswer;
 pub use answer::Verdict;
+pub use state::count_marked;
 pub use state::state_length;
+pub use state::wrong_count;

@@ -4,6 +4,7 @@ mod codes;
 mod kinds;
 
 pub use bytes::inverted_if;
+pub use bytes::mark_bit;
 pub use bytes::marked;
 pub use codes::gate_byte;
 pub use codes::table;

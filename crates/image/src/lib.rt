@@ -14,3 +14,4 @@ pub use view::operand_of;
 pub use view::sizes_of;
 pub use writing::put_net;
 pub use writing::put_sizes;
+pub use writing::put_u16;

@@ -10,7 +10,7 @@ ghost use Rattle.image.specs.Image.{u16, sizeBytes, operands};
 ghost use Rattle.image.specs.Writing.{Fits, putNet};
 
 // A u16 at p, low byte first.
-fn put_u16(d: &mut [u8], p: usize, x: usize)
+pub fn put_u16(d: &mut [u8], p: usize, x: usize)
     requires { ⌜ (p + 1 < length (now d)) × (x < 65536) ⌝ }
     ensures { λ r. ⌜ now (d .exit) ≡ sets (now (d .entry)) p (u16 x) ⌝ }
 {

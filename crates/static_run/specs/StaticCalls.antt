@@ -9,7 +9,7 @@ use Rattle.unknowns.specs.Filling.{UNKNOWN-UNTRUSTED, noCode, staticByte}
 use Rattle.image.specs.declared.image.Net.{Net}
 use Rattle.image.specs.Image.{sizesOf, netsOf}
 use Rattle.refusals.specs.declared.answer.Refusal.{Refusal}
-use Rattle.refusals.specs.Refusals.{refuse, _then_, Alphabet, badLength}
+use Rattle.refusals.specs.Refusals.{refuse, _then_, Alphabet, badByte, badLength}
 use Rattle.checking.specs.Check.{checkRefusal}
 use Rattle.cycle.specs.Cycle.{Rules, registers, cyclesOf}
 use Rattle.cycle.specs.Calls.{refused, start, PoweredUp, lentRefusal, Ran, asRun}
@@ -45,7 +45,9 @@ unfoldable pub staticRunRefusal : (s st : List ℕ) (k : ℕ) (rows outputs : Li
 staticRunRefusal s st k rows outputs =
     checkRefusal s
     then refuse (ltb 4096 k) 9 0
-    then lentRefusal staticBytes (sizesOf s .registers) (k * sizesOf s .inputs) (k * sizesOf s .outputs) st rows outputs
+    then badLength 10 (sizesOf s .registers) st
+    then badByte (staticBytes .bad) (staticBytes .in-state) 0 st
+    then lentRefusal staticBytes (k * sizesOf s .inputs) (k * sizesOf s .outputs) rows outputs
 
 -- a static run is a run by the static rules
 unfoldable pub staticRunOf : (s st : List ℕ) (k : ℕ) (rows outputs : List ℕ) → Ran
