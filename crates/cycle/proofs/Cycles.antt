@@ -14,7 +14,7 @@ use Rattle.gates.proofs.Laws.{gates-agree, agree-mark, SameValue, gates-values,
 use Rattle.image.specs.declared.image.Net.{Net}
 use Rattle.image.specs.Image.{count}
 use Rattle.image.specs.Pins.{inverted, pinNet}
-use Rattle.image.proofs.Pairs.{pairs-append, pairs-getD, pairs-take, pairs-drop}
+use Rattle.image.proofs.Pairs.{pairs-append, pairs-getD, pairs-places, pairs-take, pairs-drop}
 use Rattle.refusals.proofs.Refusals.{Codes}
 use Rattle.net_checking.proofs.Passes.{Passes, is-const, is-input, is-reg, is-not, is-and, is-or, is-xor, is-mux, is-out}
 use Rattle.checking.proofs.Checked.{AllPass, nil, cons}
@@ -221,6 +221,9 @@ codes-cycle ps = cycle-related plain plain {Q = AnyVerdicts} code-kept (λ i xs 
 -- codes are low, and so is what is read where there is no byte
 pub low-codes : {bs : List ℕ} → Codes bs → Low bs
 low-codes {bs} h = record { low = λ i. let m = pairs-getD i 0 (lit≤ tt) h in omega arith }
+
+pub codes-low : {bs : List ℕ} → Low bs → Codes bs
+codes-low {bs} l = pairs-places bs bs 0 refl (λ i h. let m = l .low i in omega arith)
 
 -- what a pin reads of a code is one
 pub pin-code : (bs : List ℕ) (p : ℕ) → getD bs (pinNet p) 0 < 4 → pinByte gateByte bs p < 4

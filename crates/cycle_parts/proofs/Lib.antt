@@ -2,3 +2,4 @@
 pub mod Reading
 pub mod Walking
 pub mod Starts
+pub mod Counting

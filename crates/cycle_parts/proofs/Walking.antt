@@ -44,9 +44,9 @@ walk-begins {s} {n} r h size second =
       upto = omega arith;
       size = size;
       all = rw left;
-      codes = record { bytes = Forall₂·nil; row = r .codes; state = r .state .codes };
+      codes = record { bytes = Forall₂·nil; row = r .codes; state = r .registers .codes };
       of-inputs = rw left (omega (arith, r .image .inputs, r .size));
-      of-registers = rw left (omega (arith, r .image .registers, r .state .size));
+      of-registers = rw left (omega (arith, r .image .registers, r .registers .size));
       second = λ l. second;
     }
 

@@ -16,8 +16,9 @@ ghost use Rattle.gates.specs.Kinds.{INPUT, REG};
 ghost use Rattle.gates.specs.Rules.{gateByte};
 ghost use Rattle.gates.specs.Table.{GateTable};
 ghost use Rattle.image.specs.Image.{sizesOf, kindAt, netAt, netsOf};
+ghost use Rattle.checking.specs.Check.{checkRefusal};
+ghost use Rattle.cycle.specs.Codes.{Low};
 ghost use Rattle.cycle.specs.Cycle.{netByte, bytesOf};
-ghost use Rattle.cycle.specs.Calls.{stepRefusal};
 ghost use Rattle.cycle_parts.specs.Readable.{walkAt, Readable};
 
 // A net's byte, and how many row bytes and state bytes are taken with it.
@@ -85,9 +86,9 @@ fn net_byte(
 
 // The bytes of all nets, in net order: the row's for INPUTs, the state's for REGs, and a code of the table for gates and OUTs.
 pub fn work_out(image: &[u8], n: usize, t: &[u8; 576], row: &[u8], state: &[u8], nets: &mut [u8])
-    requires { ⌜ GateTable (now t) ⌝ }
-    requires { ⌜ stepRefusal (now image) (now state) (now row) (now nets) ≡ none ⌝ }
-    requires { ⌜ n ≡ sizesOf (now image) .nets ⌝ }
+    requires { ⌜ GateTable (now t) × (checkRefusal (now image) ≡ none) × (n ≡ sizesOf (now image) .nets) ⌝ }
+    requires { ⌜ (length (now row) ≡ sizesOf (now image) .inputs) × (length (now state) ≡ sizesOf (now image) .registers) × (length (now nets) ≡ n) ⌝ }
+    requires { ⌜ Low (now row) × Low (now state) ⌝ }
     ensures { λ r. ⌜ now (nets .exit) ≡ bytesOf gateByte (netsOf (now (image .entry))) (now (row .entry)) (now (state .entry)) ⌝ }
 {
     // Operand b of an OUT is its policy, 0 or 1, and is read as if it were a pin. So an OUT at net 1 may read net 1 itself, which

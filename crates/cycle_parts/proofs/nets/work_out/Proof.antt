@@ -8,7 +8,9 @@ use lib.ListN.{length, length-set, List·getD-eq-default}
 use lib.Seq.{getD-set-same}
 use borrow.Author.Needs.{needs}
 use Rattle.image.specs.Image.{sizesOf}
-use Rattle.cycle.proofs.Calls.{Ready, step-none}
+use Rattle.checking.proofs.Checked.{check-none}
+use Rattle.cycle.proofs.Cycles.{codes-low}
+use Rattle.cycle.proofs.Calls.{Ready}
 use Rattle.cycle_parts.proofs.Walking.{Walked, walk-begins, walk-readable, walk-goes-on, walk-ends}
 use Rattle.cycle_parts.proofs.nets.work_out.Statement.{statement}
 use Rattle.cycle_parts.proofs.nets.work_out.Tie as tie
@@ -19,12 +21,20 @@ Inv-loop image n t row state nets₀ inputs₀ registers₀ i₀ nets inputs reg
 abbrev μ-loop : tie.MeasureT-loop
 μ-loop image n t row state nets₀ inputs₀ registers₀ i₀ nets inputs registers i = n - i
 
--- the bytes are those of an accepted step
+-- the image is accepted, and the bytes that are read are codes
 ready : (c : tie.Start Inv-loop μ-loop) → Ready (c .args .image .now) (c .args .state .now) (sizesOf (c .args .image .now) .inputs) (c .args .row .now)
-ready c = step-none _ _ _ _ .0 (c .pre .1 .0) .0
+ready c =
+    let sizes = c .pre .1 .0 in
+    let low = c .pre .1 .1 in
+    record {
+      image = check-none _ .0 (c .pre .0 .1);
+      registers = record { size = sizes .1; codes = codes-low (low .1) };
+      size = sizes .0;
+      codes = codes-low (low .0);
+    }
 
 size : (c : tie.Start Inv-loop μ-loop) → length (c .args .nets .now) ≡ c .args .n
-size c = step-none _ _ _ _ .0 (c .pre .1 .0) .1 ∙ sym (c .pre .1 .1)
+size c = c .pre .1 .0 .2
 
 slice-write-nets : tie.Need-slice-write-nets Inv-loop μ-loop
 slice-write-nets c = omega (arith, size (c .before .before .before .before .before), c .if1 .taken)
@@ -35,7 +45,7 @@ loop-holds c =
     let n = start .args .n in
     let nets = start .args .nets .now in
     let l = size start in
-    let begins = walk-begins {n = n} (ready start) (start .pre .1 .1) in
+    let begins = walk-begins {n = n} (ready start) (start .pre .0 .2) in
     ⊎-elim
     (λ w.
     let e = w .1 in
@@ -51,14 +61,14 @@ net-byte-requires c κs =
     let start = at .before .before .before .before .before .before in
     let walked = at .loop .inv in
     let below = c .before .loop-test .taken in
-    let e = start .pre .1 .1 in
-    (start .pre .0, ((rw (← e) below, ready start .image .exact, walked .size ∙ e), rw (← e) (walk-readable walked below)))
+    let e = start .pre .0 .2 in
+    (start .pre .0 .0, ((rw (← e) below, ready start .image .exact, walked .size ∙ e), rw (← e) (walk-readable walked below)))
 
 loop-again : tie.Need-loop-again Inv-loop μ-loop
 loop-again c =
     let at = c .before .before .before in
     let start = at .before .before .before .before .before .before in
-    let x = rw (← start .pre .1 .1) at (c .net-byte .ensures) in
+    let x = rw (← start .pre .0 .2) at (c .net-byte .ensures) in
     rw (add-one (at .loop .i)) (walk-goes-on (at .loop .inv) (c .before .before .loop-test .taken) _ _ _ (x .0) (x .1 .0) (x .1 .1))
 
 same-length : tie.Need-same-length Inv-loop μ-loop

@@ -2,7 +2,7 @@
 use Prim.Native.Nat.{_-_, _<_}
 use native.Mathlib.Omega.{arith}
 use mathlib.Core.Logic.{⊎-elim}
-use mathlib.Core.Path.{_≡_, sym, _∙_}
+use mathlib.Core.Path.{_≡_, refl, sym, _∙_}
 use lib.ListN.{length}
 use borrow.Author.Needs.{needs}
 use Rattle.gates.specs.Kinds.{REG}
@@ -10,16 +10,16 @@ use Rattle.gates.specs.Rules.{gateByte}
 use Rattle.image.specs.Image.{kindAt, netAt}
 use Rattle.checking.proofs.Checked.{Checked, check-none, pin-below}
 use Rattle.cycle.specs.Cycle.{pinByte, clocked}
-use Rattle.cycle.proofs.Selections.{registers-selected}
-use Rattle.cycle.proofs.Filling.{Pass, pass-reads, pass-begins, pass-room, pass-takes, pass-skips, pass-ends}
+use Rattle.cycle.proofs.Filling.{pass-reads, pass-room, pass-ends}
+use Rattle.cycle_parts.proofs.Counting.{Counting, counting-begins, counting-fits, counting-takes, counting-skips, counting-ends}
 use Rattle.cycle_parts.proofs.registers.clock.Statement.{statement}
 use Rattle.cycle_parts.proofs.registers.clock.Tie as tie
 
 abbrev Inv-loop : tie.InvT-loop
-Inv-loop image n nets state₀ j₀ i₀ state j i = Pass (registers-selected (λ x. pinByte gateByte nets (x .a))) image n state₀ state j i
+Inv-loop image n nets state₀ marked₀ j₀ i₀ state marked j i = Counting (λ x. pinByte gateByte nets (x .a)) image n state₀ state marked j i
 
 abbrev μ-loop : tie.MeasureT-loop
-μ-loop image n nets state₀ j₀ i₀ state j i = n - i
+μ-loop image n nets state₀ marked₀ j₀ i₀ state marked j i = n - i
 
 checked : (c : tie.Start Inv-loop μ-loop) → Checked (c .args .image .now)
 checked c = check-none _ .0 (c .pre .0)
@@ -28,7 +28,7 @@ loop-holds : tie.Need-loop-holds Inv-loop μ-loop
 loop-holds c =
     let start = c .before .before .before in
     let size = start .pre .1 in
-    pass-begins _ (checked start) (size .0) (size .2 ∙ checked start .registers)
+    counting-begins (checked start) (size .0) (size .2)
 
 is-register : (c : tie.Then1 Inv-loop μ-loop)
     → let at = c .before .before .before in
@@ -48,15 +48,23 @@ pin-byte-requires c κs =
 
 -- a register has a byte in the state
 room : (c : tie.Then1 Inv-loop μ-loop) → let at = c .before .before .before in at .loop .j < length (at .loop .state)
-room c = pass-room (c .before .before .before .loop .inv) (c .before .before .loop-test .taken) (is-register c)
+room c = pass-room (c .before .before .before .loop .inv .pass) (c .before .before .loop-test .taken) (is-register c)
 
 slice-write-state : tie.Need-slice-write-state Inv-loop μ-loop
 slice-write-state c = room (c .before .before)
 
+add-marked : tie.Need-add-marked Inv-loop μ-loop
+unfolding netAt
+add-marked c =
+    let read = c .before .before in
+    let pass = c .before .before .before .before .before .before .loop .inv in
+    let byte = rw (read .operand-of .ensures .0, ← pass .pass .count-is) at (c .before .pin-byte .ensures) in
+    record { fits = rw (c .mark-bit .ensures .0) (counting-fits pass (read .before .before .before .loop-test .taken) (is-register (read .before)) byte) }
+
 add-j : tie.Need-add-j Inv-loop μ-loop
 add-j c =
-    let then = c .before .before in
-    omega (arith, room then, then .before .before .before .loop .inv .size)
+    let then = c .before .before .before in
+    omega (arith, room then, then .before .before .before .loop .inv .pass .size)
 
 loop-again : tie.Need-loop-again Inv-loop μ-loop
 unfolding netAt
@@ -65,13 +73,17 @@ loop-again c =
     let pass = turn .before .loop .inv in
     let below = turn .loop-test .taken in
     ⊎-elim
-    (λ w. rw (w .3, w .4, w .2 .ensures, w .1 .ensures .0, ← pass .count-is) (pass-takes pass below (is-register (record { before = c .before; if1 = w .0 }))))
-    (λ w. rw (w .1, w .2) (pass-skips pass below (λ e. w .0 .left (c .before .kind-of .ensures ∙ e))))
+    (λ w.
+    rw (w .4, w .5, w .6, w .3 .ensures .0, w .2 .ensures, w .1 .ensures .0, ← pass .pass .count-is)
+    (counting-takes pass below (is-register (record { before = c .before; if1 = w .0 })) refl))
+    (λ w. rw (w .1, w .2, w .3) (counting-skips pass below (λ e. w .0 .left (c .before .kind-of .ensures ∙ e))))
     (c .if1 .came)
 
 returns : tie.Need-returns Inv-loop μ-loop
 unfolding clocked
-returns c = pass-ends (c .before .loop .inv) (c .loop-test .left)
+returns c =
+    let pass = c .before .loop .inv in
+    (pass-ends (pass .pass) (c .loop-test .left), counting-ends pass (c .loop-test .left))
 
 pub clock-spec : {M : Type 1} → statement M
 clock-spec =
@@ -81,12 +93,14 @@ clock-spec =
     μ-loop
     loop-holds
     (λ c κs. search needs)
-    (λ c κs. pass-reads (c .before .before .before .loop .inv) (c .before .before .loop-test .taken) 0 (omega arith))
+    (λ c κs. pass-reads (c .before .before .before .loop .inv .pass) (c .before .before .loop-test .taken) 0 (omega arith))
     pin-byte-requires
     slice-write-state
+    (λ c κs. search needs)
+    add-marked
     add-j
     (λ c. search needs)
     (λ c. search needs)
     loop-again
-    (λ c. c .before .loop .inv .size)
+    (λ c. c .before .loop .inv .pass .size)
     returns)
