@@ -4,11 +4,11 @@ use native.Mathlib.Omega.{arith}
 use native.Mathlib.Numerals.{add-one}
 use mathlib.Core.Logic.{_↔_}
 use mathlib.Core.Path.{_≡_, refl, sym, ap, ap₂, _∙_}
-use mathlib.Core.List.{List, [], _∷_, _++_, Forall₂, Forall₂·nil, Forall₂·cons}
+use mathlib.Core.List.{List, [], _∷_, _++_, append-nil, Forall₂, Forall₂·nil, Forall₂·cons}
 use mathlib.Core.Bool.{Bool, true, false}
 use mathlib.Core.Option.{none}
-use lib.ListN.{length, getD, take, drop, set, length-append, length-take}
-use lib.Seq.{length-take-le, take-at, drop-at, getD-at, getD-append-add, take-suc, take-suc-set, take-all}
+use lib.ListN.{length, getD, take, drop, set, length-append, length-take, length-drop}
+use lib.Seq.{length-take-le, take-at, drop-at, getD-at, getD-append-add, take-suc, take-suc-set, drop-length, sets, sets-eq}
 use Rattle.gates.specs.Rules.{bit, mark}
 use Rattle.gates.specs.Relations.{AgreeByte, Agree}
 use Rattle.gates.proofs.Laws.{Code, agree-mark}
@@ -58,6 +58,9 @@ pub count-set : (buffer : List ℕ) (j y : ℕ) → j < length buffer → marked
 unfolding markedCount
 count-set buffer j y h = rw (take-suc-set buffer j y h, count-append) (omega arith)
 
+drop-all : (n : ℕ) (l : List ℕ) → length l ≡ n → drop n l ≡ []
+drop-all n l h = rw (← h) (drop-length l)
+
 -- STATES. What stands where in the state of register bytes
 module _ (rs : List ℕ) where
   pub state-length : length (withCount rs) ≡ length rs + 2
@@ -83,6 +86,14 @@ module _ (rs : List ℕ) where
   -- the count is read as the number
   pub count-read : {r : ℕ} → length rs ≡ r → u16At (withCount rs) r ≡ markedCount rs
   count-read l = let low = low-byte l in let high = high-byte l in omega arith
+
+-- the count put behind register bytes that were written to the front of a state
+pub put-count : (rs st : List ℕ) {r n : ℕ} → length rs ≡ r → length st ≡ r + 2 → n ≡ markedCount rs → sets (rs ++ drop r st) r (u16 n) ≡ withCount rs
+unfolding withCount
+put-count rs st {r} {n} l size e =
+    let all : length (rs ++ drop r st) ≡ r + 2 = simp (length-append, length-drop) (omega arith) in
+    sets-eq (u16 n) (rs ++ drop r st) r (omega arith)
+    ∙ rw (take-at rs (drop r st) r l, e, drop-all (r + 2) (rs ++ drop r st) all, append-nil)
 
 -- register bytes of an image, each in A, a relation that looks at its first byte alone; and of plain calls, bytes 0 to 3
 pub record RegistersOf (A : ℕ → ℕ → Type 0) (s rs : List ℕ) : Type 0 where

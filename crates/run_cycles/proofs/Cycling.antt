@@ -194,7 +194,7 @@ pub taken-ready : {width : ℕ} {s st : List ℕ} {n : ℕ} {rows : List ℕ} �
 taken-ready t =
     record {
       image = check-none _ .0 (t .image);
-      state = record { size = t .registers; codes = coded-pairs (t .state) };
+      registers = record { size = t .registers; codes = coded-pairs (t .state) };
       size = t .size;
       codes = coded-pairs (t .codes);
     }
@@ -203,8 +203,8 @@ pub ready-taken : {width : ℕ} {s st : List ℕ} {n : ℕ} {rows : List ℕ} �
 ready-taken r =
     record {
       image = check-none _ .1 (r .image);
-      registers = r .state .size;
-      state = pairs-coded (r .state .codes);
+      registers = r .registers .size;
+      state = pairs-coded (r .registers .codes);
       size = r .size;
       codes = pairs-coded (r .codes);
     }

@@ -62,7 +62,7 @@ clock-listed-requires c κs =
     let s = begun .args .image .now in
     let f = found begun in
     let r = ready begun in
-    ((check-none _ .1 (r .image), size worked), (f .regs, r .state .size ∙ r .image .registers ∙ sym (list-size s REG (f .regs))))
+    ((check-none _ .1 (r .image), size worked), (f .regs, r .registers .size ∙ r .image .registers ∙ sym (list-size s REG (f .regs))))
 
 returns : tie.Need-returns
 unfolding cycleOf

@@ -202,7 +202,7 @@ loop-again c =
 same-length : tie.Need-same-length Inv-loop μ-loop
 same-length c =
     let at = c .before in
-    at .loop .inv .1 .ready .state .size ∙ sym (accepted (begun-at at) .state .size)
+    at .loop .inv .1 .ready .registers .size ∙ sym (accepted (begun-at at) .registers .size)
 
 same-length-2 : tie.Need-same-length-2 Inv-loop μ-loop
 same-length-2 c =

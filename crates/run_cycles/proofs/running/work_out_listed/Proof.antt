@@ -60,7 +60,7 @@ put-bytes-requires-2 c κs =
     let f = found start in
     let r = ready start in (
       start .pre .1 .0 .1 .state,
-      (r .state .size ∙ r .image .registers ∙ sym (list-size s REG (f .regs)), places-fit (few start) (listed-places s refl REG (f .regs)), size₁ first),
+      (r .registers .size ∙ r .image .registers ∙ sym (list-size s REG (f .regs)), places-fit (few start) (listed-places s refl REG (f .regs)), size₁ first),
     )
 
 -- after the second

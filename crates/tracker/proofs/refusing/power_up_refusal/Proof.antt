@@ -1,12 +1,14 @@
 -- `tracker::refusing::power_up_refusal` meets its contract: checking comes first, and then the state's length.
+use Prim.Native.Nat.{_<_}
 use mathlib.Core.Path.{_≡_, sym, ap, _∙_}
 use mathlib.Core.Option.{none}
 use native.Mathlib.Omega.{arith}
 use borrow.Author.Needs.{needs}
 use borrow.Author.Tests.{eq-eqb, ne-eqb}
+use Rattle.gates.specs.Kinds.{REG}
 use Rattle.refusals.specs.Refusals.{refusalIn, badLength}
 use Rattle.checking.specs.Check.{checkRefusal}
-use Rattle.checking.proofs.Checked.{check-none}
+use Rattle.checking.proofs.Checked.{check-none, few-of}
 use Rattle.cycle.specs.Calls.{powerUpRefusal}
 use Rattle.tracker.proofs.refusing.power_up_refusal.Statement.{statement}
 use Rattle.tracker.proofs.refusing.power_up_refusal.Tie as tie
@@ -23,6 +25,12 @@ accepted c = sym (c .before .before .check .ensures) ∙ ap refusalIn (c .enum-t
 
 sizes-of-requires : tie.Need-sizes-of-requires
 sizes-of-requires c κs = let image = check-none _ .0 (accepted c) in omega (arith, image .exact)
+
+-- R fits a u16
+few-registers : (c : tie.After-sizes-of) → c .sizes-of .result .registers < 65536
+few-registers c =
+    let image = check-none _ .0 (accepted (c .before)) in
+    rw (c .sizes-of .ensures) (omega (arith, image .registers, few-of image REG))
 
 returns-2 : tie.Need-returns-2
 unfolding powerUpRefusal badLength
@@ -47,7 +55,7 @@ power-up-refusal-spec =
     returns
     (λ c. search needs)
     sizes-of-requires
-    (λ c κs. search needs)
+    (λ c κs. few-registers c)
     (λ c κs. search needs)
     returns-2
     returns-3)

@@ -5,7 +5,7 @@ use mathlib.Core.Option.{none}
 use native.Mathlib.Omega.{arith}
 use borrow.Author.Needs.{needs}
 use borrow.Author.Tests.{lt-ltb, le-ltb}
-use Rattle.gates.specs.Kinds.{INPUT, OUT}
+use Rattle.gates.specs.Kinds.{INPUT, REG, OUT}
 use Rattle.refusals.specs.Refusals.{refusalIn}
 use Rattle.checking.specs.Check.{checkRefusal}
 use Rattle.checking.proofs.Checked.{check-none, few-of}
@@ -40,23 +40,27 @@ sizes-of-requires c κs = let image = check-none _ .0 (accepted (c .before)) in 
 
 mul-lent-refusal : tie.Need-mul-lent-refusal
 mul-lent-refusal c =
-    let sized = c .before .before in
+    let sized = c .before in
     let image = check-none _ .0 (accepted (sized .before .before)) in
     rw (sized .sizes-of .ensures) (record { fits = product-fits (few (sized .before)) (omega (arith, image .inputs, few-of image INPUT)) })
 
 mul-lent-refusal-2 : tie.Need-mul-lent-refusal-2
 mul-lent-refusal-2 c =
-    let sized = c .before .before .before in
+    let sized = c .before .before in
     let image = check-none _ .0 (accepted (sized .before .before)) in
     rw (sized .sizes-of .ensures) (record { fits = product-fits (few (sized .before)) (omega (arith, image .outputs, few-of image OUT)) })
+
+-- R fits a u16
+few-registers : (c : tie.After-sizes-of) → c .sizes-of .result .registers < 65536
+few-registers c =
+    let image = check-none _ .0 (accepted (c .before .before)) in
+    rw (c .sizes-of .ensures) (omega (arith, image .registers, few-of image REG))
 
 returns-3 : tie.Need-returns-3
 unfolding runRefusal
 returns-3 c =
-    let long = c .before .before .before in
-    let sized = long .before in
-    rw (accepted (sized .before .before), le-ltb 4096 _ (few (sized .before)))
-    (rw (long .state-length .ensures, sized .sizes-of .ensures) at (c .lent-refusal .ensures))
+    let sized = c .before .before .before in
+    rw (accepted (sized .before .before), le-ltb 4096 _ (few (sized .before))) (rw (sized .sizes-of .ensures) at (c .lent-refusal .ensures))
 
 pub run-refusal-spec : {M : Type 1} → statement M
 run-refusal-spec =
@@ -69,8 +73,7 @@ run-refusal-spec =
     (λ c κs. search needs)
     returns-2
     sizes-of-requires
-    (λ c κs. search needs)
     mul-lent-refusal
     mul-lent-refusal-2
-    (λ c κs. search needs)
+    (λ c κs. few-registers (c .before .before))
     returns-3)

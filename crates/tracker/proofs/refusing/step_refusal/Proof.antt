@@ -1,11 +1,13 @@
 -- `tracker::refusing::step_refusal` meets its contract: checking comes first, and then the lent bytes.
+use Prim.Native.Nat.{_<_}
 use mathlib.Core.Path.{_≡_, sym, ap, _∙_}
 use mathlib.Core.Option.{none}
 use native.Mathlib.Omega.{arith}
 use borrow.Author.Needs.{needs}
+use Rattle.gates.specs.Kinds.{REG}
 use Rattle.refusals.specs.Refusals.{refusalIn}
 use Rattle.checking.specs.Check.{checkRefusal}
-use Rattle.checking.proofs.Checked.{check-none}
+use Rattle.checking.proofs.Checked.{check-none, few-of}
 use Rattle.cycle.specs.Calls.{stepRefusal}
 use Rattle.tracker.proofs.refusing.step_refusal.Statement.{statement}
 use Rattle.tracker.proofs.refusing.step_refusal.Tie as tie
@@ -23,12 +25,17 @@ accepted c = sym (c .before .before .check .ensures) ∙ ap refusalIn (c .enum-t
 sizes-of-requires : tie.Need-sizes-of-requires
 sizes-of-requires c κs = let image = check-none _ .0 (accepted c) in omega (arith, image .exact)
 
+-- R fits a u16
+few-registers : (c : tie.After-sizes-of) → c .sizes-of .result .registers < 65536
+few-registers c =
+    let image = check-none _ .0 (accepted (c .before)) in
+    rw (c .sizes-of .ensures) (omega (arith, image .registers, few-of image REG))
+
 returns-2 : tie.Need-returns-2
 unfolding stepRefusal
 returns-2 c =
-    let long = c .before in
-    let sized = long .before in
-    rw (accepted (sized .before)) (rw (long .state-length .ensures, sized .sizes-of .ensures) at (c .lent-refusal .ensures))
+    let sized = c .before in
+    rw (accepted (sized .before)) (rw (sized .sizes-of .ensures) at (c .lent-refusal .ensures))
 
 pub step-refusal-spec : {M : Type 1} → statement M
 step-refusal-spec =
@@ -39,6 +46,5 @@ step-refusal-spec =
     returns
     (λ c. search needs)
     sizes-of-requires
-    (λ c κs. search needs)
-    (λ c κs. search needs)
+    (λ c κs. few-registers c)
     returns-2)
