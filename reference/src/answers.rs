@@ -1,8 +1,8 @@
 //! The answers of the calls: refusals, verdicts and a run's first flow.
 
 /// A call that turns back answers with the number of the condition in the
-/// table of document 01, or of document 02 with 18 of request L4 or 19 of request
-/// L6, and a place.
+/// table of document 01, or of document 02 with 18 of request L4, 19 of request L6
+/// or 20 of request L7, and a place.
 ///
 /// The place is the net for 4 to 7, the index of the first bad byte for 11, 13
 /// and 18, and 0 for every other number.

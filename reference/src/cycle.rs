@@ -9,24 +9,24 @@ use crate::answers::Verdict;
 use crate::gates::{const_byte, is_marked, net_byte, Gates};
 use crate::netlist::{Net, Netlist, Pin, Policy, Start};
 
-/// What one cycle gives: all net bytes, the verdict, and the state after the
-/// clock.
+/// What one cycle gives: all net bytes, the verdict, and the register bytes after
+/// the clock, in net order.
 pub(crate) struct Cycle {
     pub nets: Vec<u8>,
     pub verdict: Verdict,
-    pub state: Vec<u8>,
+    pub registers: Vec<u8>,
 }
 
-/// The state at power-up. Each register takes what the rule gives for its start,
-/// in net order.
-pub(crate) fn power_up_state(netlist: &Netlist, rule: fn(Start) -> u8) -> Vec<u8> {
-    let mut state = Vec::new();
+/// The register bytes at power-up. Each register takes what the rule gives for its
+/// start, in net order.
+pub(crate) fn power_up_registers(netlist: &Netlist, rule: fn(Start) -> u8) -> Vec<u8> {
+    let mut registers = Vec::new();
     for net in &netlist.nets {
         if let Net::Reg(_, start) = net {
-            state.push(rule(*start));
+            registers.push(rule(*start));
         }
     }
-    state
+    registers
 }
 
 /// The byte with which a register starts. A start value that is given has mark
@@ -41,14 +41,14 @@ pub(crate) fn start_byte(start: Start) -> u8 {
 
 /// One cycle works out all nets, gives the verdict, and then every register
 /// takes the byte that its pin reads.
-pub(crate) fn work_out(netlist: &Netlist, gates: &Gates, state: &[u8], row: &[u8]) -> Cycle {
-    let nets = net_bytes(netlist, gates, state, row);
+pub(crate) fn work_out(netlist: &Netlist, gates: &Gates, registers: &[u8], row: &[u8]) -> Cycle {
+    let nets = net_bytes(netlist, gates, registers, row);
     let verdict = verdict(netlist, &nets);
-    let state = clock(netlist, gates, &nets);
+    let registers = clock(netlist, gates, &nets);
     Cycle {
         nets,
         verdict,
-        state,
+        registers,
     }
 }
 
@@ -65,8 +65,8 @@ fn read(nets: &[u8], gates: &Gates, pin: Pin) -> u8 {
 
 /// The bytes of all nets, worked out in net order. The pins of a gate and of an
 /// OUT name nets below their own number, so those bytes are there already. A
-/// REG shows its state byte, and its pin is read at the clock alone.
-fn net_bytes(netlist: &Netlist, gates: &Gates, state: &[u8], row: &[u8]) -> Vec<u8> {
+/// REG shows its register byte, and its pin is read at the clock alone.
+fn net_bytes(netlist: &Netlist, gates: &Gates, registers: &[u8], row: &[u8]) -> Vec<u8> {
     let mut nets: Vec<u8> = Vec::new();
     let mut input = 0;
     let mut register = 0;
@@ -80,7 +80,7 @@ fn net_bytes(netlist: &Netlist, gates: &Gates, state: &[u8], row: &[u8]) -> Vec<
             }
             Net::Reg(_, _) => {
                 register += 1;
-                state[register - 1]
+                registers[register - 1]
             }
             Net::Not(a) => (gates.not)(at(a)),
             Net::And(a, b) => (gates.and)(at(a), at(b)),
@@ -107,16 +107,16 @@ fn verdict(netlist: &Netlist, nets: &[u8]) -> Verdict {
     Verdict::Clear
 }
 
-/// The state after the clock. Every register takes the byte that its pin reads,
-/// all together: only the net bytes of this cycle are read.
+/// The register bytes after the clock. Every register takes the byte that its pin
+/// reads, all together: only the net bytes of this cycle are read.
 fn clock(netlist: &Netlist, gates: &Gates, nets: &[u8]) -> Vec<u8> {
-    let mut state = Vec::new();
+    let mut registers = Vec::new();
     for net in &netlist.nets {
         if let Net::Reg(pin, _) = net {
-            state.push(read(nets, gates, *pin));
+            registers.push(read(nets, gates, *pin));
         }
     }
-    state
+    registers
 }
 
 /// The bytes of the OUTs, in output order.

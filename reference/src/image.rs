@@ -43,15 +43,15 @@ fn operand_offset(n: usize, number: usize) -> usize {
     HEAD + n + 6 * number
 }
 
-/// The u16 at an offset, low byte first.
-fn read_u16(image: &[u8], offset: usize) -> usize {
-    usize::from(image[offset]) + 256 * usize::from(image[offset + 1])
+/// The u16 at an offset of an image or a state, low byte first.
+pub(crate) fn read_u16(bytes: &[u8], offset: usize) -> usize {
+    usize::from(bytes[offset]) + 256 * usize::from(bytes[offset + 1])
 }
 
-/// Writes a number below 65,536 at an offset, low byte first.
-fn write_u16(image: &mut [u8], offset: usize, number: usize) {
-    image[offset] = (number % 256) as u8;
-    image[offset + 1] = (number / 256) as u8;
+/// Writes a number below 65,536 at such an offset, low byte first.
+pub(crate) fn write_u16(bytes: &mut [u8], offset: usize, number: usize) {
+    bytes[offset] = (number % 256) as u8;
+    bytes[offset + 1] = (number / 256) as u8;
 }
 
 /// Reads the four sizes. The image has at least 8 bytes.

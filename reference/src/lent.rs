@@ -1,9 +1,9 @@
 //! What a call looks at before its first cycle: refusals 9 to 14 for K, states,
-//! rows, output buffers and records, and of document 02 refusals 18 of request L4
-//! and 19 of request L6.
+//! rows, output buffers and records, and of document 02 refusals 18 of request L4,
+//! 19 of request L6 and 20 of request L7.
 
 use crate::answers::Refusal;
-use crate::netlist::Netlist;
+use crate::state::{marked_registers, stored_count};
 
 /// A run takes 0 to 4,096 cycles.
 pub const MOST_CYCLES: usize = 4096;
@@ -17,10 +17,19 @@ pub(crate) fn check_cycles(k: usize) -> Result<(), Refusal> {
     Ok(())
 }
 
-/// Refusal 10: the state length is not R.
-pub(crate) fn check_state_length(netlist: &Netlist, state: &[u8]) -> Result<(), Refusal> {
-    if state.len() != netlist.registers {
+/// Refusal 10: the state length is not R + 2, or in a static call R.
+pub(crate) fn check_state_length(state: &[u8], length: usize) -> Result<(), Refusal> {
+    if state.len() != length {
         return Err(Refusal::plain(10));
+    }
+    Ok(())
+}
+
+/// Refusal 20: the count that a state of r registers holds is not the number of
+/// its marked registers.
+pub(crate) fn check_count(state: &[u8], r: usize) -> Result<(), Refusal> {
+    if stored_count(state, r) != marked_registers(&state[..r]) {
+        return Err(Refusal::plain(20));
     }
     Ok(())
 }

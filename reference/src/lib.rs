@@ -1,6 +1,6 @@
 //! A reference implementation of the gate-level trust tracker.
 //!
-//! It is written from document 01, the specification, and requests L1 to L6 of
+//! It is written from document 01, the specification, and requests L1 to L7 of
 //! document 02, and follows their formulas literally. Every call checks the
 //! image anew and works on a decoded netlist.
 
@@ -20,6 +20,7 @@ mod netlist;
 mod page;
 mod pages;
 mod size;
+mod state;
 mod static_calls;
 mod static_gates;
 
@@ -36,5 +37,6 @@ pub use netlist::{Kind, Net, Netlist, Pin, Policy, Start};
 pub use page::page;
 pub use pages::pages;
 pub use size::{doubled_size, DoubledSize, GROUP_LENGTHS};
+pub use state::{state_length, state_of};
 pub use static_calls::{static_power_up, static_run};
 pub use static_gates::{and_code, mux_code, not_code, or_code, xor_code};

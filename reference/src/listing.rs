@@ -7,6 +7,7 @@ use crate::calls::{power_up, step};
 use crate::check::check;
 use crate::cycle::output_bytes;
 use crate::netlist::Netlist;
+use crate::state::state_length;
 
 /// Prints the listing of an image with the rows that `input` holds.
 ///
@@ -32,7 +33,7 @@ fn list_cycles(
     input: &mut impl Read,
     output: &mut impl Write,
 ) -> io::Result<()> {
-    let mut state = vec![0; netlist.registers];
+    let mut state = vec![0; state_length(netlist.registers)];
     let mut nets = vec![0; netlist.nets.len()];
     if let Err(refusal) = power_up(image, &mut state) {
         return print_refusal(output, refusal);

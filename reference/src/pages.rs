@@ -10,6 +10,7 @@ use crate::cycle::output_bytes;
 use crate::listing::{print_refusal, read_row};
 use crate::netlist::Netlist;
 use crate::page::{page_text, PAGE_CYCLES};
+use crate::state::state_length;
 
 /// Prints the pages of an image with the rows that `input` holds.
 ///
@@ -35,7 +36,7 @@ fn print_pages(
     input: &mut impl Read,
     output: &mut impl Write,
 ) -> io::Result<()> {
-    let mut state = vec![0; netlist.registers];
+    let mut state = vec![0; state_length(netlist.registers)];
     if let Err(refusal) = power_up(image, &mut state) {
         return print_refusal(output, refusal);
     }

@@ -1,14 +1,15 @@
 //! The calls static power-up and static run: request L4 of document 02.
 //!
-//! State, rows and outputs are codes. A static run has the cycle of a run, with
-//! the gates of a static run, and turns back as a run does, with 18 in place of
-//! 11 and 13. The mark of a code stands where that of a byte does, so that 6 is
-//! marked and 4 is not, and a verdict is found as in a run.
+//! State, rows and outputs are codes, and the state is those of the registers
+//! alone, without the count of request L7. A static run has the cycle of a run,
+//! with the gates of a static run, and turns back as a run does, with 18 in place
+//! of 11 and 13, and without 20. The mark of a code stands where that of a byte
+//! does, so that 6 is marked and 4 is not, and a verdict is found as in a run.
 
 use crate::answers::{FirstFlow, Refusal};
 use crate::calls::run_cycles;
 use crate::check::check;
-use crate::cycle::{power_up_state, start_byte};
+use crate::cycle::{power_up_registers, start_byte};
 use crate::lent::{
     check_buffer_length, check_bytes, check_cycles, check_row_length, check_state_length,
 };
@@ -19,8 +20,8 @@ use crate::static_gates::{GATES_ON_CODES, UNKNOWN_UNTRUSTED};
 /// so this call meets 1 to 8 and 10, but not 18.
 pub fn static_power_up(image: &[u8], state: &mut [u8]) -> Result<(), Refusal> {
     let netlist = check(image)?;
-    check_state_length(&netlist, state)?;
-    state.copy_from_slice(&power_up_state(&netlist, start_code));
+    check_state_length(state, netlist.registers)?;
+    state.copy_from_slice(&power_up_registers(&netlist, start_code));
     Ok(())
 }
 
@@ -36,7 +37,7 @@ pub fn static_run(
 ) -> Result<FirstFlow, Refusal> {
     let netlist = check(image)?;
     check_cycles(k)?;
-    check_state_length(&netlist, state)?;
+    check_state_length(state, netlist.registers)?;
     check_bytes(state, is_no_code, 18)?;
     check_row_length(rows, k * netlist.inputs)?;
     check_bytes(rows, is_no_code, 18)?;

@@ -7,13 +7,13 @@ use crate::exact_marks::{ways, Cycle, Seen};
 use crate::images::*;
 use crate::pins::{inverted, without_inversions};
 
-/// In a cycle with this row and this state the nets are as listed, one after the
-/// other.
-fn nets_are(nets: &[Entry], row: &[u8], state: &[u8], expected: &[(u8, usize, bool)]) {
+/// In a cycle with this row and these registers the nets are as listed, one after
+/// the other.
+fn nets_are(nets: &[Entry], row: &[u8], registers: &[u8], expected: &[(u8, usize, bool)]) {
     let cycle = Cycle {
         nets: nets.to_vec(),
         row: row.to_vec(),
-        state: state.to_vec(),
+        registers: registers.to_vec(),
     };
     let expected: Vec<Seen> = expected
         .iter()
@@ -180,9 +180,10 @@ fn an_inverted_pin_is_one_way() {
 // 5 NOT 4. No other net reaches a REG. With its pin as a way, net 0 would reach
 // net 2 along two ways, and the count around nets 4 and 5 would not end.
 //
-// - Row 2, state 0: net 1 is a trusted 0 in this cycle, whatever the row is.
+// - Row 2, first register 0: net 1 is a trusted 0 in this cycle, whatever the row is.
 //   XOR(2, 0) is 2.
-// - Row 2, state 2: XOR(2, 2) is 2, and the two reach it along one way each.
+// - Row 2, first register 2: XOR(2, 2) is 2, and the two reach it along one way
+//   each.
 #[test]
 fn the_pin_of_a_register_is_no_way() {
     let nets = [

@@ -12,6 +12,7 @@ use crate::images::*;
 use crate::pins::{all_inversions, change_pins, inverted, pin_count, pins};
 use crate::random::{random_nets, Numbers};
 use crate::samples::{all_triples, sample, values, GATES};
+use crate::states::with_count;
 
 /// The number of ways along which net `from` reaches net `to`. A net reaches
 /// itself along one way, which has no pin. Otherwise the last pin of a way is one
@@ -32,16 +33,17 @@ pub fn ways(nets: &[Entry], from: usize, to: usize) -> usize {
     count
 }
 
-/// The plain values of all nets, 0 or 1, for the values of a row and a state.
-fn plain_values(nets: &[Entry], row: &[u8], state: &[u8]) -> Vec<u8> {
+/// The plain values of all nets, 0 or 1, for the values of a row and of the
+/// registers.
+fn plain_values(nets: &[Entry], row: &[u8], registers: &[u8]) -> Vec<u8> {
     let mut found: Vec<u8> = Vec::new();
-    let (mut row, mut state) = (row.iter(), state.iter());
+    let (mut row, mut registers) = (row.iter(), registers.iter());
     for (kind, a, b, c) in nets {
         let read = |pin: &u16| found[usize::from(pin % 32768)] ^ u8::from(*pin >= 32768);
         let value = match *kind {
             CONST => *a as u8,
             INPUT => row.next().unwrap() % 2,
-            REG => state.next().unwrap() % 2,
+            REG => registers.next().unwrap() % 2,
             NOT => 1 - read(a),
             AND => read(a) & read(b),
             OR => read(a) | read(b),
@@ -54,11 +56,11 @@ fn plain_values(nets: &[Entry], row: &[u8], state: &[u8]) -> Vec<u8> {
     found
 }
 
-/// One cycle of a netlist: its nets, and the bytes of its row and of its state.
+/// One cycle of a netlist: its nets, and the bytes of its row and of its registers.
 pub struct Cycle {
     pub nets: Vec<Entry>,
     pub row: Vec<u8>,
-    pub state: Vec<u8>,
+    pub registers: Vec<u8>,
 }
 
 /// A net in a cycle: its byte, the largest number of ways along which one marked
@@ -91,25 +93,25 @@ impl Seen {
 }
 
 impl Cycle {
-    /// All joint choices of values: each marked byte of the row and of the state
-    /// is 2 and 3, as an untrusted unknown is filled, and the others stay.
+    /// All joint choices of values: each marked byte of the row and of the
+    /// registers is 2 and 3, as an untrusted unknown is filled, and the others stay.
     fn choices(&self) -> Vec<(Vec<u8>, Vec<u8>)> {
         let open = |byte: &u8| if *byte >= 2 { 6 } else { *byte };
-        let sources: Vec<u8> = self.row.iter().chain(&self.state).map(open).collect();
+        let sources: Vec<u8> = self.row.iter().chain(&self.registers).map(open).collect();
         let mut all = Vec::new();
         for mut row in all_fillings(&sources) {
-            let state = row.split_off(self.row.len());
-            all.push((row, state));
+            let registers = row.split_off(self.row.len());
+            all.push((row, registers));
         }
         all
     }
 
     /// For each net whether some joint choice gives it another value.
     fn changes(&self) -> Vec<bool> {
-        let given = plain_values(&self.nets, &self.row, &self.state);
+        let given = plain_values(&self.nets, &self.row, &self.registers);
         let mut changes = vec![false; given.len()];
-        for (row, state) in self.choices() {
-            let other = plain_values(&self.nets, &row, &state);
+        for (row, registers) in self.choices() {
+            let other = plain_values(&self.nets, &row, &registers);
             for (net, value) in other.into_iter().enumerate() {
                 changes[net] |= value != given[net];
             }
@@ -119,10 +121,11 @@ impl Cycle {
 
     /// All nets, with their bytes by a step.
     pub fn look(&self) -> Vec<Seen> {
-        let (_, bytes, _) = sample(&self.nets).step(&self.state, &self.row);
+        let state = with_count(&self.registers);
+        let (_, bytes, _) = sample(&self.nets).step(&state, &self.row);
         assert_eq!(
             values(&bytes),
-            plain_values(&self.nets, &self.row, &self.state)
+            plain_values(&self.nets, &self.row, &self.registers)
         );
         let mut seen = Vec::new();
         for (net, changes) in self.changes().into_iter().enumerate() {
@@ -137,7 +140,7 @@ impl Cycle {
 
     /// The largest number of ways along which one marked input or register reaches
     /// this net, where the nets have these bytes. An INPUT and a REG have the byte
-    /// of the row and of the state.
+    /// of the row and of the register.
     fn most_ways(&self, bytes: &[u8], net: usize) -> usize {
         let mut most = 0;
         for (source, entry) in self.nets.iter().enumerate() {
@@ -149,13 +152,13 @@ impl Cycle {
     }
 }
 
-/// A cycle of these nets with any row and any state.
+/// A cycle of these nets with any row and any registers.
 fn random_cycle(numbers: &mut Numbers, nets: &[Entry]) -> Cycle {
     let source = sample(nets);
     Cycle {
         nets: nets.to_vec(),
         row: numbers.bytes(source.inputs),
-        state: numbers.bytes(source.registers),
+        registers: numbers.bytes(source.registers),
     }
 }
 
@@ -183,8 +186,8 @@ impl Counts {
 }
 
 // Netlists of 2 to 10 nets of all kinds, with registers of all starts, about half
-// of them with inverted pins, each in four cycles with any row and any state. The
-// forms are counted, so that the claim is tried on each of them.
+// of them with inverted pins, each in four cycles with any row and any registers.
+// The forms are counted, so that the claim is tried on each of them.
 #[test]
 fn marks_are_exact_where_no_marked_source_has_two_ways() {
     let mut numbers = Numbers(29);
@@ -265,8 +268,12 @@ fn every_entry_of_the_tables_is_exact() {
         for row in all_triples() {
             let mut nets = vec![(INPUT, 0, 0, 0); 3];
             nets.push(gate);
-            let (row, state) = (row.to_vec(), Vec::new());
-            let seen = Cycle { nets, row, state }.look().remove(3);
+            let cycle = Cycle {
+                nets,
+                row: row.to_vec(),
+                registers: Vec::new(),
+            };
+            let seen = cycle.look().remove(3);
             assert!(seen.is_reached_once_at_most(), "{gate:?}");
             assert_eq!(seen.is_marked(), seen.changes, "{gate:?}: {seen:?}");
         }

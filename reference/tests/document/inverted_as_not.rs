@@ -6,6 +6,7 @@ use crate::images::*;
 use crate::pins::{change_pins, inverted, pins};
 use crate::random::{random_nets, Numbers};
 use crate::samples::{sample, Sample};
+use crate::states::with_count;
 use reference::Verdict;
 
 /// A netlist with a NOT for each inverted pin, and the number that each net of
@@ -88,7 +89,7 @@ fn same_as_with_nots(numbers: &mut Numbers, nets: &[Entry]) {
     let source = sample(nets);
     let other = with_nots(nets);
     assert_eq!(other.netlist.power_up(), source.power_up());
-    let mut state = numbers.bytes(source.registers);
+    let mut state = with_count(&numbers.bytes(source.registers));
     for _ in 0..8 {
         let row = numbers.bytes(source.inputs);
         let (verdict, bytes, after) = source.step(&state, &row);

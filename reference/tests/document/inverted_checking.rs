@@ -177,9 +177,9 @@ fn bad_bits() -> Vec<(Vec<u8>, u32, usize)> {
 fn every_call_turns_back_and_changes_nothing() {
     for (image, number, place) in bad_bits() {
         check_refuses(&image, number, place);
-        power_up_refuses(&image, &[77], number, place);
-        step_refuses(&image, (&[3], &[2], 6), number, place);
-        run_refuses(&image, 2, (&[3], &[2, 2], 2), number, place);
+        power_up_refuses(&image, &[77; 3], number, place);
+        step_refuses(&image, (&[3, 1, 0], &[2], 6), number, place);
+        run_refuses(&image, 2, (&[3, 1, 0], &[2, 2], 2), number, place);
         double_refuses(&image, 120, number, place);
         assert_eq!(doubled_size(&image), refused(number, place));
     }

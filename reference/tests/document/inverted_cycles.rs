@@ -4,6 +4,7 @@
 use crate::images::*;
 use crate::pins::inverted;
 use crate::samples::{sample, Sample};
+use crate::states::with_count;
 use reference::{listing, Verdict};
 
 /// What an inverted pin reads of the bytes 0, 1, 2 and 3.
@@ -31,10 +32,10 @@ fn an_out_with_an_inverted_pin() {
         let verdicts = [Verdict::Clear, Verdict::Clear, flow, flow];
         for byte in 0..=3 {
             let read = READS[usize::from(byte)];
-            let (verdict, nets, _) = source.step(&[], &[byte]);
+            let (verdict, nets, _) = source.step(&[0, 0], &[byte]);
             assert_eq!(verdict, verdicts[usize::from(byte)]);
             assert_eq!(nets, [byte, read, read, byte]);
-            let (answer, outputs, _) = source.run(&[], 1, &[byte]);
+            let (answer, outputs, _) = source.run(&[0, 0], 1, &[byte]);
             assert_eq!(answer.verdict, verdicts[usize::from(byte)]);
             assert_eq!(outputs, [read, read, byte]);
         }
@@ -64,23 +65,23 @@ fn register(start: u16) -> Sample {
 #[test]
 fn power_up_gives_a_register_its_start() {
     for (start, byte) in [(0, 0), (1, 1), (2, 2)] {
-        assert_eq!(register(start).power_up(), [byte]);
+        assert_eq!(register(start).power_up(), with_count(&[byte]));
     }
 }
 
-// In the cycle a register has its state byte. At the clock it takes the row's
-// byte inverted. A flow follows from the mark of the state byte.
+// In the cycle a register has its own byte. At the clock it takes the row's byte
+// inverted. A flow follows from the mark of its own byte.
 #[test]
 fn a_register_reads_its_inverted_pin_at_the_clock_alone() {
     let flow = Verdict::Flow(2);
     let verdicts = [Verdict::Clear, Verdict::Clear, flow, flow];
     for start in 0..=2 {
-        for state in 0..=3 {
+        for byte in 0..=3 {
             for row in 0..=3 {
-                let stepped = register(start).step(&[state], &[row]);
-                let verdict = verdicts[usize::from(state)];
-                let after = READS[usize::from(row)];
-                assert_eq!(stepped, (verdict, vec![row, state, state], vec![after]));
+                let stepped = register(start).step(&with_count(&[byte]), &[row]);
+                let verdict = verdicts[usize::from(byte)];
+                let after = with_count(&[READS[usize::from(row)]]);
+                assert_eq!(stepped, (verdict, vec![row, byte, byte], after));
             }
         }
     }
@@ -98,9 +99,9 @@ fn a_register_of_itself_inverted() {
         (2, [2, 3, 2], 3),
         (3, [3, 2, 3], 2),
     ];
-    for (state, outputs, after) in cases {
-        let ran = source.run(&[state], 3, &[]);
-        assert_eq!((ran.1, ran.2), (outputs.to_vec(), vec![after]));
+    for (byte, outputs, after) in cases {
+        let ran = source.run(&with_count(&[byte]), 3, &[]);
+        assert_eq!((ran.1, ran.2), (outputs.to_vec(), with_count(&[after])));
     }
 }
 
@@ -110,9 +111,9 @@ fn a_register_of_itself_inverted() {
 #[test]
 fn registers_change_places_inverted() {
     let source = sample(&[(REG, inverted(1), 0, 0), (REG, inverted(0), 0, 0)]);
-    assert_eq!(source.run(&[0, 3], 1, &[]).2, [2, 1]);
-    assert_eq!(source.run(&[0, 3], 2, &[]).2, [0, 3]);
-    assert_eq!(source.run(&[1, 1], 1, &[]).2, [0, 0]);
+    assert_eq!(source.run(&[0, 3, 1, 0], 1, &[]).2, [2, 1, 1, 0]);
+    assert_eq!(source.run(&[0, 3, 1, 0], 2, &[]).2, [0, 3, 1, 0]);
+    assert_eq!(source.run(&[1, 1, 0, 0], 1, &[]).2, [0, 0, 0, 0]);
 }
 
 // A CONST is trusted, and so is what an inverted pin reads of it: 0 becomes 1
@@ -121,7 +122,7 @@ fn registers_change_places_inverted() {
 fn an_inverted_pin_on_a_const() {
     for (value, byte) in [(0, 1), (1, 0)] {
         let source = sample(&[(CONST, value, 0, 0), (OUT, inverted(0), 1, 0)]);
-        let (verdict, nets, _) = source.step(&[], &[]);
+        let (verdict, nets, _) = source.step(&[0, 0], &[]);
         assert_eq!(verdict, Verdict::Clear);
         assert_eq!(nets, [value as u8, byte]);
     }
@@ -142,7 +143,7 @@ fn the_counter_with_inverted_pins() {
     let (answer, outputs, state) = source.run(&source.power_up(), 4, &COUNTER_ROWS);
     assert_eq!((answer.cycle, answer.verdict), (1, Verdict::Flow(3)));
     assert_eq!(outputs, [0, 3, 2, 0]);
-    assert_eq!(state, [1]);
+    assert_eq!(state, [1, 0, 0]);
     let expected = "0 0 clear\n1 3 flow 3\n2 2 flow 3\n3 0 clear\nend 4\n";
     assert_eq!(lines(&source.image, &COUNTER_ROWS), expected);
 }
@@ -154,7 +155,7 @@ fn an_inverted_pin_on_the_highest_net() {
     let mut nets = vec![(INPUT, 0, 0, 0)];
     nets.extend(vec![(OUT, 0, 0, 0); 8190]);
     nets.push((OUT, inverted(8190), 1, 0));
-    let (verdict, bytes, _) = sample(&nets).step(&[], &[2]);
+    let (verdict, bytes, _) = sample(&nets).step(&[0, 0], &[2]);
     assert_eq!(verdict, Verdict::Flow(8191));
     assert_eq!(bytes[8190..], [2, 3]);
 }

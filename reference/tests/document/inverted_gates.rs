@@ -14,7 +14,7 @@ type Table = [[u8; 4]; 4];
 fn gate_byte(gate: Entry, row: [u8; 3]) -> u8 {
     let inputs = [(INPUT, 0, 0, 0); 3];
     let source = sample(&[inputs[0], inputs[1], inputs[2], gate]);
-    let (_, nets, _) = source.step(&[], &row);
+    let (_, nets, _) = source.step(&[0, 0], &row);
     assert_eq!(nets[..3], row);
     nets[3]
 }
@@ -168,6 +168,6 @@ fn the_same_net_plain_and_inverted() {
         [3, 3, 2, 2, 3],
     ];
     for nets in cycles {
-        assert_eq!(source.step(&[], &nets[..1]).1, nets);
+        assert_eq!(source.step(&[0, 0], &nets[..1]).1, nets);
     }
 }

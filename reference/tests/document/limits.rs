@@ -36,17 +36,17 @@ fn every_count_may_be_as_large_as_the_nets() {
     let outputs = counted(&nets);
     assert_eq!(check(&outputs).unwrap().outputs, 8191);
     let mut bytes = vec![0; 8192];
-    let verdict = step(&outputs, &mut [], &[3], &mut bytes);
+    let verdict = step(&outputs, &mut [0, 0], &[3], &mut bytes);
     assert_eq!(verdict, Ok(Verdict::Flow(8191)));
     assert_eq!(bytes, vec![3; 8192]);
 }
 
 // With rows of 0 the counter's register becomes NOT of itself in each cycle:
 // net 3 is NOT 0 = 1, and net 4 is AND of NOT of the register and 1. From 0 the
-// outputs are 0, 1, 0, 1 and so on, and after 4,096 cycles the state is 0.
+// outputs are 0, 1, 0, 1 and so on, and after 4,096 cycles it is 0.
 #[test]
 fn a_run_of_4096_cycles_is_accepted() {
-    let mut state = [0];
+    let mut state = [0; 3];
     let mut outputs = vec![77; 4096];
     let answer = run(&COUNTER, 4096, &mut state, &[0; 4096], &mut outputs);
     let expected = FirstFlow {
@@ -54,7 +54,7 @@ fn a_run_of_4096_cycles_is_accepted() {
         verdict: Verdict::Clear,
     };
     assert_eq!(answer, Ok(expected));
-    assert_eq!(state, [0]);
+    assert_eq!(state, [0; 3]);
     for (cycle, byte) in outputs.iter().enumerate() {
         assert_eq!(usize::from(*byte), cycle % 2);
     }
@@ -64,23 +64,23 @@ fn a_run_of_4096_cycles_is_accepted() {
 #[test]
 fn more_than_4096_cycles_are_refused() {
     for k in [4097, 65536, usize::MAX / 2 + 1, usize::MAX - 1, usize::MAX] {
-        run_refuses(&COUNTER, k, (&[0], &[0; 4], 4), 9, 0);
-        run_refuses(&two_inputs(), k, (&[], &[], 0), 9, 0);
+        run_refuses(&COUNTER, k, (&[0; 3], &[0; 4], 4), 9, 0);
+        run_refuses(&two_inputs(), k, (&[0, 0], &[], 0), 9, 0);
     }
 }
 
 // Three registers hold their own bytes, so the state stays as it was.
 #[test]
-fn state_bytes_go_to_3() {
+fn register_bytes_go_to_3() {
     let held = three_registers();
-    let mut state = [3, 2, 1];
+    let mut state = [3, 2, 1, 2, 0];
     let mut nets = [77; 3];
     assert_eq!(step(&held, &mut state, &[], &mut nets), Ok(Verdict::Clear));
     assert_eq!(nets, [3, 2, 1]);
-    assert_eq!(state, [3, 2, 1]);
+    assert_eq!(state, [3, 2, 1, 2, 0]);
     for bad in 4..=255 {
-        step_refuses(&held, (&[0, 0, bad], &[], 3), 11, 2);
-        run_refuses(&held, 1, (&[0, bad, bad], &[], 0), 11, 1);
+        step_refuses(&held, (&[0, 0, bad, 0, 0], &[], 3), 11, 2);
+        run_refuses(&held, 1, (&[0, bad, bad, 0, 0], &[], 0), 11, 1);
     }
 }
 
@@ -90,24 +90,24 @@ fn row_bytes_go_to_3() {
     for good in 0..=3 {
         let mut nets = [77; 2];
         assert_eq!(
-            step(&two_inputs(), &mut [], &[0, good], &mut nets),
+            step(&two_inputs(), &mut [0, 0], &[0, good], &mut nets),
             Ok(Verdict::Clear)
         );
         assert_eq!(nets, [0, good]);
     }
     for bad in 4..=255 {
-        step_refuses(&two_inputs(), (&[], &[0, bad], 2), 13, 1);
-        run_refuses(&two_inputs(), 2, (&[], &[3, 3, 3, bad], 0), 13, 3);
+        step_refuses(&two_inputs(), (&[0, 0], &[0, bad], 2), 13, 1);
+        run_refuses(&two_inputs(), 2, (&[0, 0], &[3, 3, 3, bad], 0), 13, 3);
     }
 }
 
-// Power-up ignores what the state buffer held. Starts 0, 1 and 2 make the bytes
-// 0, 1 and 2.
+// Power-up ignores what the state buffer held, bytes above 3 and wrong counts too.
+// Starts 0, 1 and 2 make the bytes 0, 1 and 2, of which one is marked.
 #[test]
 fn power_up_ignores_the_old_state() {
     for old in [0, 1, 3, 4, 255] {
-        let mut state = [old; 3];
+        let mut state = [old; 5];
         assert_eq!(power_up(&three_registers(), &mut state), Ok(()));
-        assert_eq!(state, [0, 1, 2]);
+        assert_eq!(state, [0, 1, 2, 1, 0]);
     }
 }

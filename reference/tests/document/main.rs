@@ -1,4 +1,4 @@
-//! Tests of the reference against document 01 and requests L1 to L6 of document
+//! Tests of the reference against document 01 and requests L1 to L7 of document
 //! 02.
 //!
 //! Every expected value is a line of these documents or is worked out by hand
@@ -40,6 +40,10 @@ mod properties;
 mod random;
 mod samples;
 mod sizes;
+mod state_counts;
+mod state_refusals;
+mod state_wrong_readings;
+mod states;
 mod static_cycles;
 mod static_exact;
 mod static_gates;
@@ -47,6 +51,7 @@ mod static_properties;
 mod static_refusals;
 mod static_wrong_readings;
 mod table;
+mod two_refusals;
 mod two_runs;
 mod unchanged;
 mod unknown;

@@ -2,7 +2,8 @@
 //!
 //! In each case the image or the call has both faults, and the lower number is
 //! expected, since document 01 orders by rising number except that nets are
-//! tried in turn, each for 4 to 7.
+//! tried in turn, each for 4 to 7. By request L7 of document 02, 20 comes directly
+//! after 11. The counter has one register, so its state has 3 bytes.
 
 use crate::images::*;
 use crate::lent::*;
@@ -111,35 +112,78 @@ fn refusal_8_before_9_and_10() {
 #[test]
 fn refusal_9_before_10() {
     run_refuses(&COUNTER, 4097, (&[], &[], 0), 9, 0);
-    run_refuses(&COUNTER, usize::MAX, (&[0, 0], &[], 0), 9, 0);
+    run_refuses(&COUNTER, usize::MAX, (&[0; 4], &[], 0), 9, 0);
 }
 
-// Two state bytes for one register, the first of them 4.
+// A state that is too short or too long, whose first byte is 4.
 #[test]
 fn refusal_10_before_11() {
-    step_refuses(&COUNTER, (&[4, 0], &[0], 6), 10, 0);
-    run_refuses(&COUNTER, 1, (&[4, 0], &[0], 1), 10, 0);
+    for state in [&[4][..], &[4, 0], &[4, 0, 0, 0]] {
+        step_refuses(&COUNTER, (state, &[0], 6), 10, 0);
+        run_refuses(&COUNTER, 1, (state, &[0], 1), 10, 0);
+    }
 }
 
-// A state byte 4, and a row that is too long.
+// A state that is too short or too long, with the count 1 for an unmarked register.
+#[test]
+fn refusal_10_before_20() {
+    for state in [&[0, 1][..], &[0, 1, 0, 0]] {
+        step_refuses(&COUNTER, (state, &[0], 6), 10, 0);
+        run_refuses(&COUNTER, 1, (state, &[0], 1), 10, 0);
+    }
+}
+
+// A register byte 4, which is not marked, and 6, which would be, with other counts.
+// The last of three registers is 4, and its count is 1 too high.
+#[test]
+fn refusal_11_before_20() {
+    for state in [[4, 1, 0], [4, 0, 1], [6, 0, 0], [6, 2, 0]] {
+        step_refuses(&COUNTER, (&state, &[0], 6), 11, 0);
+        run_refuses(&COUNTER, 1, (&state, &[0], 1), 11, 0);
+    }
+    step_refuses(&three_registers(), (&[2, 3, 4, 3, 0], &[], 3), 11, 2);
+    run_refuses(&three_registers(), 1, (&[2, 3, 4, 3, 0], &[], 0), 11, 2);
+}
+
+// A register byte 4, and a row that is too long.
 #[test]
 fn refusal_11_before_12() {
-    step_refuses(&COUNTER, (&[4], &[0, 0], 6), 11, 0);
-    run_refuses(&COUNTER, 1, (&[4], &[0, 0], 1), 11, 0);
+    step_refuses(&COUNTER, (&[4, 0, 0], &[0, 0], 6), 11, 0);
+    run_refuses(&COUNTER, 1, (&[4, 0, 0], &[0, 0], 1), 11, 0);
+}
+
+// The count 1 for an unmarked register, and then a row that is too short or too
+// long, a row byte 4, and a net or output buffer that is too long.
+#[test]
+fn refusal_20_before_12_13_and_14() {
+    for row in [&[][..], &[0, 0], &[4]] {
+        step_refuses(&COUNTER, (&[0, 1, 0], row, 6), 20, 0);
+        run_refuses(&COUNTER, 1, (&[0, 1, 0], row, 1), 20, 0);
+    }
+    step_refuses(&COUNTER, (&[0, 1, 0], &[0], 7), 20, 0);
+    run_refuses(&COUNTER, 1, (&[0, 1, 0], &[0], 2), 20, 0);
+}
+
+// The count 1 for an unmarked register, with a bad image and with 4,097 cycles.
+#[test]
+fn refusals_8_and_9_before_20() {
+    step_refuses(&wrong_count(), (&[0, 1, 0], &[0], 2), 8, 0);
+    run_refuses(&wrong_count(), 1, (&[0, 1, 0], &[0], 0), 8, 0);
+    run_refuses(&COUNTER, 4097, (&[0, 1, 0], &[0], 1), 9, 0);
 }
 
 // Two row bytes where one is due, the first of them 255.
 #[test]
 fn refusal_12_before_13() {
-    step_refuses(&COUNTER, (&[0], &[255, 0], 6), 12, 0);
-    run_refuses(&COUNTER, 1, (&[0], &[255, 0], 1), 12, 0);
+    step_refuses(&COUNTER, (&[0; 3], &[255, 0], 6), 12, 0);
+    run_refuses(&COUNTER, 1, (&[0; 3], &[255, 0], 1), 12, 0);
 }
 
 // A row byte 4, and a net or output buffer that is too long.
 #[test]
 fn refusal_13_before_14() {
-    step_refuses(&COUNTER, (&[0], &[4], 7), 13, 0);
-    run_refuses(&COUNTER, 1, (&[0], &[4], 2), 13, 0);
+    step_refuses(&COUNTER, (&[0; 3], &[4], 7), 13, 0);
+    run_refuses(&COUNTER, 1, (&[0; 3], &[4], 2), 13, 0);
 }
 
 // A CONST and 1,024 ORs with I = 1, and a buffer of no bytes.
@@ -164,10 +208,11 @@ fn refusal_8_before_16() {
 // With K = 0 no row or output byte is due, and every refusal is still met.
 #[test]
 fn a_run_of_no_cycles_meets_every_refusal() {
-    run_refuses(&COUNTER[..7], 0, (&[0], &[], 0), 1, 0);
-    run_refuses(&wrong_count(), 0, (&[0], &[], 0), 8, 0);
+    run_refuses(&COUNTER[..7], 0, (&[0; 3], &[], 0), 1, 0);
+    run_refuses(&wrong_count(), 0, (&[0; 3], &[], 0), 8, 0);
     run_refuses(&COUNTER, 0, (&[], &[], 0), 10, 0);
-    run_refuses(&COUNTER, 0, (&[4], &[], 0), 11, 0);
-    run_refuses(&COUNTER, 0, (&[0], &[0], 0), 12, 0);
-    run_refuses(&COUNTER, 0, (&[0], &[], 1), 14, 0);
+    run_refuses(&COUNTER, 0, (&[4, 0, 0], &[], 0), 11, 0);
+    run_refuses(&COUNTER, 0, (&[0, 1, 0], &[], 0), 20, 0);
+    run_refuses(&COUNTER, 0, (&[0; 3], &[0], 0), 12, 0);
+    run_refuses(&COUNTER, 0, (&[0; 3], &[], 1), 14, 0);
 }

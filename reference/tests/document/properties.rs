@@ -6,6 +6,7 @@
 use crate::images::{INPUT, REG};
 use crate::random::Numbers;
 use crate::samples::*;
+use crate::states::{doubled_state, registers, with_count};
 use reference::{Verdict, GROUP_LENGTHS};
 
 #[test]
@@ -13,7 +14,7 @@ fn a_run_is_its_steps() {
     let mut numbers = Numbers(2);
     for source in samples(&mut numbers) {
         let rows = numbers.bytes(8 * source.inputs);
-        let start = numbers.bytes(source.registers);
+        let start = with_count(&numbers.bytes(source.registers));
         let mut state = start.clone();
         let mut first = (8, Verdict::Clear);
         let mut expected = Vec::new();
@@ -32,8 +33,9 @@ fn a_run_is_its_steps() {
     }
 }
 
-/// A state of the source and one of its doubled netlist, whose plain values are
-/// the values and marks of the former.
+/// A state of the source and one of its doubled netlist, whose registers have as
+/// plain values the values and marks of the former. Each of the two has its own
+/// count, and these are not compared.
 struct States {
     source: Vec<u8>,
     doubled: Vec<u8>,
@@ -46,15 +48,23 @@ fn power_ups(source: &Sample) -> States {
         source: source.power_up(),
         doubled: source.doubled().power_up(),
     };
-    assert_eq!(values(&states.doubled), split(&states.source));
+    registers_pair(&states.source, &states.doubled);
     states
 }
 
-/// Register j's value and mark start the doubled registers 2j and 2j + 1.
-fn from_state(state: &[u8]) -> States {
+/// The plain values of the doubled registers are the values and marks of the
+/// source's.
+fn registers_pair(source: &[u8], doubled: &[u8]) {
+    assert_eq!(values(registers(doubled)), split(registers(source)));
+}
+
+/// The source starts with these register bytes. Register j's value and mark start
+/// the doubled registers 2j and 2j + 1.
+fn from_registers(bytes: &[u8]) -> States {
+    let source = with_count(bytes);
     States {
-        source: state.to_vec(),
-        doubled: split(state),
+        doubled: doubled_state(&source),
+        source,
     }
 }
 
@@ -64,7 +74,7 @@ fn pairs(source: &Sample, states: &States, k: usize, rows: &[u8]) {
     let (_, outputs, state) = source.run(&states.source, k, rows);
     let (answer, doubled_outputs, doubled_state) = doubled.run(&states.doubled, k, &split(rows));
     assert_eq!(values(&doubled_outputs), split(&outputs));
-    assert_eq!(values(&doubled_state), split(&state));
+    registers_pair(&state, &doubled_state);
     // The OUTs of the doubled netlist are free, whatever is marked.
     assert_eq!((answer.cycle, answer.verdict), (k, Verdict::Clear));
 }
@@ -92,7 +102,7 @@ fn nets_pair(source: &Sample, mut states: States, k: usize, rows: &[u8]) {
         let (_, nets, state) = source.step(&states.source, row);
         let (_, doubled_nets, doubled_state) = doubled.step(&states.doubled, &split(row));
         assert_eq!(joined_groups(source, &doubled_nets), nets);
-        assert_eq!(values(&doubled_state), split(&state));
+        registers_pair(&state, &doubled_state);
         states = States {
             source: state,
             doubled: doubled_state,
@@ -116,9 +126,9 @@ fn every_gate_pairs_on_all_rows() {
 fn pairs_from_all_states(source: &Sample) {
     pairs(source, &power_ups(source), 1, &[]);
     nets_pair(source, power_ups(source), 2, &[]);
-    for state in all_triples() {
-        pairs(source, &from_state(&state), 1, &[]);
-        nets_pair(source, from_state(&state), 2, &[]);
+    for bytes in all_triples() {
+        pairs(source, &from_registers(&bytes), 1, &[]);
+        nets_pair(source, from_registers(&bytes), 2, &[]);
     }
 }
 
@@ -155,9 +165,9 @@ fn small_netlists_pair_from_any_state() {
     let mut numbers = Numbers(7);
     for source in samples(&mut numbers) {
         let rows = numbers.bytes(8 * source.inputs);
-        let state = numbers.bytes(source.registers);
-        pairs(&source, &from_state(&state), 8, &rows);
-        nets_pair(&source, from_state(&state), 8, &rows);
+        let bytes = numbers.bytes(source.registers);
+        pairs(&source, &from_registers(&bytes), 8, &rows);
+        nets_pair(&source, from_registers(&bytes), 8, &rows);
     }
 }
 
@@ -170,28 +180,30 @@ fn doubled_netlists_pair_with_their_own_doubled_netlists() {
     for source in samples(&mut numbers).into_iter().take(200) {
         let doubled = source.doubled();
         let rows = numbers.bytes(3 * doubled.inputs);
-        let state = numbers.bytes(doubled.registers);
+        let bytes = numbers.bytes(doubled.registers);
         nets_pair(&doubled, power_ups(&doubled), 3, &rows);
-        nets_pair(&doubled, from_state(&state), 3, &rows);
+        nets_pair(&doubled, from_registers(&bytes), 3, &rows);
     }
 }
 
-// The doubled netlist's own power-up and the split state of the source's
-// power-up differ in the marks of value registers with start 2 alone. With the
-// same rows the plain values of all nets are equal in every cycle.
+// The doubled netlist's own power-up and the doubled state of the source's
+// power-up differ in the marks of value registers with start 2 alone, and so in
+// the count. With the same rows the plain values of all nets are equal in every
+// cycle. The second of the two never has a mark, so its count stays 0.
 #[test]
 fn marks_of_the_doubled_run_leave_its_plain_values() {
     let mut numbers = Numbers(8);
     for source in samples(&mut numbers) {
         let doubled = source.doubled();
         let mut own = doubled.power_up();
-        let mut plain = split(&source.power_up());
+        let mut plain = doubled_state(&source.power_up());
         for _ in 0..8 {
             let row = split(&numbers.bytes(source.inputs));
             let (_, own_nets, own_state) = doubled.step(&own, &row);
             let (_, plain_nets, plain_state) = doubled.step(&plain, &row);
             assert_eq!(values(&own_nets), plain_nets);
-            assert_eq!(values(&own_state), plain_state);
+            assert_eq!(values(registers(&own_state)), registers(&plain_state));
+            assert!(plain_state.ends_with(&[0, 0]));
             (own, plain) = (own_state, plain_state);
         }
     }

@@ -3,6 +3,7 @@
 use crate::images::*;
 use crate::pins::all_inversions;
 use crate::random::{random_nets, Numbers};
+use crate::states::{registers, with_count};
 use reference::{
     double, doubled_size, power_up, run, static_power_up, static_run, step, FirstFlow, Verdict,
 };
@@ -38,8 +39,9 @@ impl Sample {
 
     /// The state at power-up.
     pub fn power_up(&self) -> Vec<u8> {
-        let mut state = vec![77; self.registers];
+        let mut state = vec![77; self.registers + 2];
         power_up(&self.image, &mut state).unwrap();
+        has_right_count(&state);
         state
     }
 
@@ -52,6 +54,7 @@ impl Sample {
         let mut state = state.to_vec();
         let mut nets = vec![fill; self.n];
         let verdict = step(&self.image, &mut state, row, &mut nets).unwrap();
+        has_right_count(&state);
         (verdict, nets, state)
     }
 
@@ -64,7 +67,15 @@ impl Sample {
         let mut state = state.to_vec();
         let mut outputs = vec![fill; k * self.outputs];
         let answer = run(&self.image, k, &mut state, rows, &mut outputs).unwrap();
+        has_right_count(&state);
         (answer, outputs, state)
+    }
+
+    /// A run from the state with these register bytes. Of its last state the
+    /// register bytes alone are given, which is what a static state is held against.
+    pub fn run_registers(&self, bytes: &[u8], k: usize, rows: &[u8]) -> Ran {
+        let (answer, outputs, state) = self.run(&with_count(bytes), k, rows);
+        (answer, outputs, registers(&state).to_vec())
     }
 
     /// The state at static power-up.
@@ -94,6 +105,11 @@ impl Sample {
             outputs: 2 * self.outputs,
         }
     }
+}
+
+/// The count of a state that a call left is that of its register bytes.
+fn has_right_count(state: &[u8]) {
+    assert_eq!(state, with_count(registers(state)));
 }
 
 pub fn sample(nets: &[Entry]) -> Sample {

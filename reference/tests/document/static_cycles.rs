@@ -37,7 +37,7 @@ fn static_power_up_sets_start_2_to_6() {
         (REG, inverted(1), 2, 0),
     ]);
     assert_eq!(source.static_power_up(), [6, 0, 1, 6]);
-    assert_eq!(source.power_up(), [2, 0, 1, 2]);
+    assert_eq!(source.power_up(), [2, 0, 1, 2, 2, 0]);
 }
 
 // The counter with any trusted program, by hand:

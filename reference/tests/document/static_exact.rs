@@ -67,7 +67,7 @@ fn each_gate_of_a_static_run_is_the_join_of_runs() {
         let (_, outputs, _) = source.static_run(&[], 216, &rows.concat());
         for (row, code) in rows.iter().zip(last_outputs(&source, &outputs)) {
             let fillings = all_fillings(row);
-            let (_, filled, _) = source.run(&[], fillings.len(), &fillings.concat());
+            let (_, filled, _) = source.run(&[0, 0], fillings.len(), &fillings.concat());
             let filled = last_outputs(&source, &filled);
             assert_eq!(code, join(filled.into_iter()), "{row:?}");
         }

@@ -6,6 +6,7 @@ use crate::codes::*;
 use crate::images::*;
 use crate::random::{random_nets, Numbers};
 use crate::samples::*;
+use crate::states::{registers, with_count};
 use reference::{FirstFlow, Verdict};
 
 /// Where a flow stands among all flows: its cycle and its net. A clear answer
@@ -19,8 +20,8 @@ fn place(answer: FirstFlow) -> (usize, usize) {
 
 /// What a static run gave covers what another run gave, with as many cycles. The
 /// first flow of the other, if it has one, does not stand before that of the
-/// static run, so that it is clear if the static run is. The outputs and the last
-/// state cover the other's.
+/// static run, so that it is clear if the static run is. The outputs and the
+/// registers at the end cover the other's.
 fn covers_ran(static_ran: &Ran, ran: &Ran) {
     let (answer, outputs, state) = static_ran;
     assert!(place(*answer) <= place(ran.0));
@@ -50,7 +51,7 @@ fn a_static_run_covers_each_run_that_fills_it() {
         }
         for _ in 0..8 {
             let (state, rows) = (fill(&mut numbers, &state), fill(&mut numbers, &rows));
-            covers_ran(&static_ran, &source.run(&state, 8, &rows));
+            covers_ran(&static_ran, &source.run_registers(&state, 8, &rows));
         }
     }
     assert!(clear > 50 && flows > 50, "{clear} and {flows}");
@@ -74,7 +75,8 @@ fn trusted_codes_are_clear() {
     }
 }
 
-// Without unknowns the answer and all bytes are those of the run.
+// Without unknowns the answer and all bytes are those of the run, but for the
+// count, which a static state does not have.
 #[test]
 fn without_unknowns_a_static_run_is_the_run() {
     let mut numbers = Numbers(23);
@@ -82,12 +84,13 @@ fn without_unknowns_a_static_run_is_the_run() {
         let rows = numbers.bytes(8 * source.inputs);
         let state = numbers.bytes(source.registers);
         let static_ran = source.static_run(&state, 8, &rows);
-        assert_eq!(static_ran, source.run(&state, 8, &rows));
+        assert_eq!(static_ran, source.run_registers(&state, 8, &rows));
     }
 }
 
-// Without start 2, too, static power-up is power-up, and the bytes that follow
-// are those of the run. Operand b of a register is its start.
+// Without start 2, too, static power-up gives the registers the bytes of power-up,
+// and the bytes that follow are those of the run. Operand b of a register is its
+// start.
 #[test]
 fn without_start_2_static_power_up_is_power_up() {
     let mut numbers = Numbers(24);
@@ -98,11 +101,11 @@ fn without_start_2_static_power_up_is_power_up() {
             net.2 %= 2;
         }
         let source = sample(&nets);
-        let state = source.power_up();
-        assert_eq!(source.static_power_up(), state);
+        let state = source.static_power_up();
+        assert_eq!(state, registers(&source.power_up()));
         let rows = numbers.bytes(8 * source.inputs);
         let static_ran = source.static_run(&state, 8, &rows);
-        assert_eq!(static_ran, source.run(&state, 8, &rows));
+        assert_eq!(static_ran, source.run_registers(&state, 8, &rows));
     }
 }
 
@@ -116,12 +119,12 @@ fn a_static_run_from_static_power_up_covers_runs_from_power_up() {
         let woken = source.static_power_up();
         let known = |code: &u8| if *code == 6 { 2 } else { *code };
         let plain: Vec<u8> = woken.iter().map(known).collect();
-        assert_eq!(source.power_up(), plain);
+        assert_eq!(source.power_up(), with_count(&plain));
         let rows = numbers.codes(8 * source.inputs);
         let static_ran = source.static_run(&woken, 8, &rows);
         for state in [plain, fill(&mut numbers, &woken)] {
             let rows = fill(&mut numbers, &rows);
-            covers_ran(&static_ran, &source.run(&state, 8, &rows));
+            covers_ran(&static_ran, &source.run_registers(&state, 8, &rows));
         }
     }
 }
@@ -139,7 +142,7 @@ fn lists_of_static_runs_cover_lists_of_runs() {
             let k = numbers.below(5);
             let rows = numbers.codes(k * source.inputs);
             let static_ran = source.static_run(&static_state, k, &rows);
-            let ran = source.run(&state, k, &fill(&mut numbers, &rows));
+            let ran = source.run_registers(&state, k, &fill(&mut numbers, &rows));
             covers_ran(&static_ran, &ran);
             (static_state, state) = (static_ran.2, ran.2);
         }
@@ -195,7 +198,7 @@ fn covers_from_all_states(source: &Sample) {
     for codes in all_code_triples() {
         let static_ran = source.static_run(&codes, 2, &[]);
         for state in all_fillings(&codes) {
-            covers_ran(&static_ran, &source.run(&state, 2, &[]));
+            covers_ran(&static_ran, &source.run_registers(&state, 2, &[]));
         }
     }
 }

@@ -149,10 +149,10 @@ fn all_six_codes_are_accepted() {
 #[test]
 fn the_run_still_refuses_4_and_6() {
     for code in [4, 6] {
-        step_refuses(&COUNTER, (&[code], &[0], 6), 11, 0);
-        step_refuses(&COUNTER, (&[0], &[code], 6), 13, 0);
-        run_refuses(&COUNTER, 2, (&[code], &[0, 0], 2), 11, 0);
-        run_refuses(&COUNTER, 2, (&[0], &[0, code], 2), 13, 1);
+        step_refuses(&COUNTER, (&[code, 0, 0], &[0], 6), 11, 0);
+        step_refuses(&COUNTER, (&[0; 3], &[code], 6), 13, 0);
+        run_refuses(&COUNTER, 2, (&[code, 0, 0], &[0, 0], 2), 11, 0);
+        run_refuses(&COUNTER, 2, (&[0; 3], &[0, code], 2), 13, 1);
     }
 }
 

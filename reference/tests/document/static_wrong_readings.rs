@@ -21,7 +21,7 @@ fn static_out(source: &Sample, row: &[u8]) -> (Verdict, u8) {
 
 /// The verdict and the output of a run of one cycle without registers.
 fn out(source: &Sample, row: &[u8]) -> (Verdict, u8) {
-    let (answer, outputs, _) = source.run(&[], 1, row);
+    let (answer, outputs, _) = source.run(&[0, 0], 1, row);
     (answer.verdict, outputs[0])
 }
 

@@ -71,7 +71,7 @@ fn refusal_8_is_one_const_with_i_1() {
 
 #[test]
 fn refusal_9_is_4097_cycles() {
-    run_refuses(&COUNTER, 4097, (&[0], &vec![0; 4097], 4097), 9, 0);
+    run_refuses(&COUNTER, 4097, (&[0; 3], &vec![0; 4097], 4097), 9, 0);
 }
 
 #[test]
@@ -81,54 +81,60 @@ fn refusal_10_is_no_state_byte_for_one_register() {
     run_refuses(&COUNTER, 1, (&[], &[0], 1), 10, 0);
 }
 
-// The first byte 4 of the second state stands at index 1, and 255 after it.
+// The first byte 4 of the third state stands at index 1, and 255 after it.
 #[test]
 fn refusal_11_is_a_state_byte_4() {
-    step_refuses(&COUNTER, (&[4], &[0], 6), 11, 0);
-    run_refuses(&COUNTER, 1, (&[4], &[0], 1), 11, 0);
-    step_refuses(&three_registers(), (&[3, 4, 255], &[], 3), 11, 1);
-    run_refuses(&three_registers(), 2, (&[3, 3, 4], &[], 0), 11, 2);
+    step_refuses(&COUNTER, (&[4, 0, 0], &[0], 6), 11, 0);
+    run_refuses(&COUNTER, 1, (&[4, 0, 0], &[0], 1), 11, 0);
+    step_refuses(&three_registers(), (&[3, 4, 255, 1, 0], &[], 3), 11, 1);
+    run_refuses(&three_registers(), 2, (&[3, 3, 4, 2, 0], &[], 0), 11, 2);
 }
 
 // A run of 3 cycles with I = 2 takes 6 row bytes.
 #[test]
 fn refusal_12_is_one_row_byte_for_two_inputs() {
-    step_refuses(&two_inputs(), (&[], &[0], 2), 12, 0);
-    run_refuses(&two_inputs(), 1, (&[], &[0], 0), 12, 0);
-    run_refuses(&two_inputs(), 3, (&[], &[0; 5], 0), 12, 0);
-    run_refuses(&two_inputs(), 3, (&[], &[0; 7], 0), 12, 0);
+    step_refuses(&two_inputs(), (&[0, 0], &[0], 2), 12, 0);
+    run_refuses(&two_inputs(), 1, (&[0, 0], &[0], 0), 12, 0);
+    run_refuses(&two_inputs(), 3, (&[0, 0], &[0; 5], 0), 12, 0);
+    run_refuses(&two_inputs(), 3, (&[0, 0], &[0; 7], 0), 12, 0);
 }
 
 // Three registers have I = 0, so every row is empty.
 #[test]
 fn refusal_12_is_any_row_byte_without_inputs() {
-    step_refuses(&three_registers(), (&[0; 3], &[0], 3), 12, 0);
-    run_refuses(&three_registers(), 2, (&[0; 3], &[0; 2], 0), 12, 0);
+    step_refuses(&three_registers(), (&[0; 5], &[0], 3), 12, 0);
+    run_refuses(&three_registers(), 2, (&[0; 5], &[0; 2], 0), 12, 0);
 }
 
 // A run counts the index through all row bytes: byte 1 of cycle 2 is 2 * 2 + 1.
 #[test]
 fn refusal_13_is_a_row_byte_255() {
-    step_refuses(&COUNTER, (&[0], &[255], 6), 13, 0);
-    step_refuses(&two_inputs(), (&[], &[3, 255], 2), 13, 1);
-    run_refuses(&COUNTER, 1, (&[0], &[255], 1), 13, 0);
-    run_refuses(&two_inputs(), 3, (&[], &[0, 1, 2, 3, 0, 255], 0), 13, 5);
-    run_refuses(&two_inputs(), 3, (&[], &[0, 1, 2, 255, 0, 255], 0), 13, 3);
+    step_refuses(&COUNTER, (&[0; 3], &[255], 6), 13, 0);
+    step_refuses(&two_inputs(), (&[0, 0], &[3, 255], 2), 13, 1);
+    run_refuses(&COUNTER, 1, (&[0; 3], &[255], 1), 13, 0);
+    run_refuses(&two_inputs(), 3, (&[0, 0], &[0, 1, 2, 3, 0, 255], 0), 13, 5);
+    run_refuses(
+        &two_inputs(),
+        3,
+        (&[0, 0], &[0, 1, 2, 255, 0, 255], 0),
+        13,
+        3,
+    );
 }
 
 #[test]
 fn refusal_14_is_7_bytes_for_6_nets() {
-    step_refuses(&COUNTER, (&[0], &[0], 7), 14, 0);
-    step_refuses(&COUNTER, (&[0], &[0], 5), 14, 0);
+    step_refuses(&COUNTER, (&[0; 3], &[0], 7), 14, 0);
+    step_refuses(&COUNTER, (&[0; 3], &[0], 5), 14, 0);
 }
 
 // A run of 4 cycles with O = 1 fills 4 output bytes. The two inputs have no
 // output, so a run of theirs fills none.
 #[test]
 fn refusal_14_is_an_output_buffer_not_k_times_o() {
-    run_refuses(&COUNTER, 4, (&[0], &[0; 4], 3), 14, 0);
-    run_refuses(&COUNTER, 4, (&[0], &[0; 4], 5), 14, 0);
-    run_refuses(&two_inputs(), 1, (&[], &[0; 2], 1), 14, 0);
+    run_refuses(&COUNTER, 4, (&[0; 3], &[0; 4], 3), 14, 0);
+    run_refuses(&COUNTER, 4, (&[0; 3], &[0; 4], 5), 14, 0);
+    run_refuses(&two_inputs(), 1, (&[0, 0], &[0; 2], 1), 14, 0);
 }
 
 #[test]

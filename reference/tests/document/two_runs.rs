@@ -1,19 +1,28 @@
 //! The two-run property of document 01, from the states of request L2 of
-//! document 02: any two states that agree in marks and in unmarked values. It is
-//! tried on netlists with and without the inverted pins of request L3.
+//! document 02: any two states that agree in marks and in unmarked values, and by
+//! request L7 have equal counts. It is tried on netlists with and without the
+//! inverted pins of request L3.
 
 use crate::images::*;
-use crate::lent::*;
 use crate::pins::inverted;
 use crate::random::Numbers;
 use crate::samples::*;
+use crate::states::{doubled_state, registers, with_count};
 use reference::Verdict;
 
 /// Two bytes agree if they are equal, or if one is 2 and the other 3. Two lists
 /// agree if they are equally long and agree place by place.
-fn agree(first: &[u8], second: &[u8]) -> bool {
+pub fn agree(first: &[u8], second: &[u8]) -> bool {
     let same = |a: u8, b: u8| a == b || matches!((a, b), (2, 3) | (3, 2));
     first.len() == second.len() && first.iter().zip(second).all(|(a, b)| same(*a, *b))
+}
+
+/// Two states of r registers agree if their first r bytes agree and the others are
+/// equal. These are the count bytes if the state has r + 2 bytes.
+pub fn states_agree(r: usize, first: &[u8], second: &[u8]) -> bool {
+    let (first, first_count) = first.split_at(r.min(first.len()));
+    let (second, second_count) = second.split_at(r.min(second.len()));
+    agree(first, second) && first_count == second_count
 }
 
 /// Bytes that agree with these, with any values where a mark is 1.
@@ -42,13 +51,20 @@ impl Lists {
     /// Two lists that start from these states. Register j's value and mark start
     /// the doubled registers 2j and 2j + 1.
     fn new(source: &Sample, states: [Vec<u8>; 2]) -> Lists {
-        assert!(agree(&states[0], &states[1]));
-        Lists {
+        let lists = Lists {
             source: source.clone(),
             doubled: source.doubled(),
-            doubled_states: [split(&states[0]), split(&states[1])],
+            doubled_states: [doubled_state(&states[0]), doubled_state(&states[1])],
             states,
-        }
+        };
+        lists.states_agree();
+        lists
+    }
+
+    /// The states of the two lists agree.
+    fn states_agree(&self) {
+        let [first, second] = &self.states;
+        assert!(states_agree(self.source.registers, first, second));
     }
 
     /// One step of each list. The verdicts are equal, and the nets and the
@@ -58,8 +74,8 @@ impl Lists {
         let second = self.source.step_over(78, &self.states[1], rows[1]);
         assert_eq!(first.0, second.0);
         assert!(agree(&first.1, &second.1));
-        assert!(agree(&first.2, &second.2));
         self.states = [first.2, second.2];
+        self.states_agree();
         self.step_doubled(rows);
     }
 
@@ -84,8 +100,8 @@ impl Lists {
         let second = self.source.run_over(78, &self.states[1], k, rows[1]);
         assert_eq!(first.0, second.0);
         assert!(agree(&first.1, &second.1));
-        assert!(agree(&first.2, &second.2));
         self.states = [first.2, second.2];
+        self.states_agree();
         assert_eq!(self.states, by_steps.states);
         self.run_doubled(k, rows);
         assert_eq!(self.doubled_states, by_steps.doubled_states);
@@ -135,7 +151,8 @@ fn two_lists_from_power_up_with_any_unknown_values() {
     let mut differed = 0;
     for source in samples(&mut numbers) {
         let state = source.power_up();
-        let states = [state.clone(), other(&mut numbers, &state)];
+        let unknown = other(&mut numbers, registers(&state));
+        let states = [state, with_count(&unknown)];
         if states[0] != states[1] {
             differed += 1;
         }
@@ -148,8 +165,8 @@ fn two_lists_from_power_up_with_any_unknown_values() {
 fn two_lists_from_any_two_states_that_agree() {
     let mut numbers = Numbers(9);
     for source in samples(&mut numbers) {
-        let state = numbers.bytes(source.registers);
-        let states = [other(&mut numbers, &state), state];
+        let bytes = numbers.bytes(source.registers);
+        let states = [other(&mut numbers, &bytes), bytes].map(|bytes| with_count(&bytes));
         Lists::new(&source, states).make_calls(&mut numbers);
     }
 }
@@ -160,7 +177,7 @@ fn agrees_from_all_states(source: &Sample) {
     for first in all_triples() {
         for second in all_triples() {
             if agree(&first, &second) {
-                let states = [first.to_vec(), second.to_vec()];
+                let states = [with_count(&first), with_count(&second)];
                 Lists::new(source, states).step([&[], &[]]);
             }
         }
@@ -188,10 +205,11 @@ fn registers_with_inverted_pins_agree_from_all_states_that_agree() {
 // Two registers: the first with start 2 and a protected OUT, the second taking
 // the AND of the first and the row. By hand, with the row 3 in both lists:
 //
-// - State 2, 0: the AND of 2 and 3 is 2, the OUT 2: a flow at net 4.
-// - State 3, 0: the AND of 3 and 3 is 3, the OUT 3: a flow at net 4.
+// - Registers 2, 0: the AND of 2 and 3 is 2, the OUT 2: a flow at net 4.
+// - Registers 3, 0: the AND of 3 and 3 is 3, the OUT 3: a flow at net 4.
 //
-// The verdicts are equal and the bytes agree. The states 2, 2 and 3, 3 agree.
+// The verdicts are equal and the bytes agree. The registers 2, 2 and 3, 3 agree,
+// and both counts become 2.
 #[test]
 fn an_unknown_register_with_either_value() {
     let source = sample(&[
@@ -201,21 +219,22 @@ fn an_unknown_register_with_either_value() {
         (AND, 0, 2, 0),
         (OUT, 0, 1, 0),
     ]);
-    assert_eq!(source.power_up(), [2, 0]);
+    let states = [vec![2, 0, 1, 0], vec![3, 0, 1, 0]];
+    assert_eq!(source.power_up(), states[0]);
     let flow = Verdict::Flow(4);
-    let first = source.step(&[2, 0], &[3]);
-    assert_eq!(first, (flow, vec![2, 0, 3, 2, 2], vec![2, 2]));
-    let second = source.step(&[3, 0], &[3]);
-    assert_eq!(second, (flow, vec![3, 0, 3, 3, 3], vec![3, 3]));
-    Lists::new(&source, [vec![2, 0], vec![3, 0]]).step([&[3], &[3]]);
+    let first = source.step(&states[0], &[3]);
+    assert_eq!(first, (flow, vec![2, 0, 3, 2, 2], vec![2, 2, 2, 0]));
+    let second = source.step(&states[1], &[3]);
+    assert_eq!(second, (flow, vec![3, 0, 3, 3, 3], vec![3, 3, 2, 0]));
+    Lists::new(&source, states).step([&[3], &[3]]);
 }
 
 // A register with start 2 that takes its own byte inverted, the AND of the row
 // and the register inverted, and a protected OUT of the AND inverted. By hand,
 // with the row 3 in both lists:
 //
-// - State 2: the AND of 3 and 3 is 3, the OUT 2: a flow at net 3. State 3.
-// - State 3: the AND of 2 and 3 is 2, the OUT 3: a flow at net 3. State 2.
+// - Register 2: the AND of 3 and 3 is 3, the OUT 2: a flow at net 3. Then 3.
+// - Register 3: the AND of 2 and 3 is 2, the OUT 3: a flow at net 3. Then 2.
 //
 // The verdicts are equal and the bytes agree.
 #[test]
@@ -226,44 +245,12 @@ fn an_unknown_register_with_either_value_behind_inverted_pins() {
         (AND, inverted(0), 1, 0),
         (OUT, inverted(2), 1, 0),
     ]);
-    assert_eq!(source.power_up(), [2]);
+    let states = [vec![2, 1, 0], vec![3, 1, 0]];
+    assert_eq!(source.power_up(), states[0]);
     let flow = Verdict::Flow(3);
-    let first = source.step(&[2], &[3]);
-    assert_eq!(first, (flow, vec![2, 3, 3, 2], vec![3]));
-    let second = source.step(&[3], &[3]);
-    assert_eq!(second, (flow, vec![3, 3, 2, 3], vec![2]));
-    Lists::new(&source, [vec![2], vec![3]]).step([&[3], &[3]]);
-}
-
-/// A run of K cycles turns back in both lists with this number and place and
-/// leaves its state and its buffer. With K = 1 so does a step.
-fn both_refuse(k: usize, states: [&[u8]; 2], rows: [&[u8]; 2], (number, place): (u32, usize)) {
-    let source = counted(&[
-        (REG, 0, 2, 0),
-        (REG, 1, 2, 0),
-        (INPUT, 0, 0, 0),
-        (OUT, 0, 1, 0),
-    ]);
-    assert!(agree(states[0], states[1]) && agree(rows[0], rows[1]));
-    for (state, row) in states.into_iter().zip(rows) {
-        run_refuses(&source, k, (state, row, k), number, place);
-        if k == 1 {
-            step_refuses(&source, (state, row, 4), number, place);
-        }
-    }
-}
-
-// States that agree may also be of another length than R, or have bytes above 3,
-// which are then equal. Both lists turn back alike.
-#[test]
-fn states_and_rows_that_agree_are_refused_alike() {
-    both_refuse(1, [&[2], &[3]], [&[2], &[3]], (10, 0));
-    both_refuse(1, [&[2, 3, 2], &[3, 2, 2]], [&[2], &[3]], (10, 0));
-    both_refuse(1, [&[2, 4], &[3, 4]], [&[2], &[3]], (11, 1));
-    both_refuse(1, [&[255, 2], &[255, 3]], [&[2], &[3]], (11, 0));
-    both_refuse(1, [&[2, 3], &[3, 2]], [&[2, 2], &[3, 3]], (12, 0));
-    both_refuse(1, [&[2, 3], &[3, 2]], [&[4], &[4]], (13, 0));
-    both_refuse(2, [&[2, 3], &[3, 2]], [&[2, 9], &[3, 9]], (13, 1));
-    both_refuse(0, [&[2, 9], &[3, 9]], [&[], &[]], (11, 1));
-    both_refuse(4097, [&[2, 9], &[3, 9]], [&[], &[]], (9, 0));
+    let first = source.step(&states[0], &[3]);
+    assert_eq!(first, (flow, vec![2, 3, 3, 2], vec![3, 1, 0]));
+    let second = source.step(&states[1], &[3]);
+    assert_eq!(second, (flow, vec![3, 3, 2, 3], vec![2, 1, 0]));
+    Lists::new(&source, states).step([&[3], &[3]]);
 }

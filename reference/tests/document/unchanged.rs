@@ -34,22 +34,24 @@ pub fn bad_images() -> Vec<(Vec<u8>, u32, usize)> {
 fn a_refused_power_up_changes_nothing() {
     for (image, number, place) in bad_images() {
         check_refuses(&image, number, place);
-        power_up_refuses(&image, &[77], number, place);
+        power_up_refuses(&image, &[77; 3], number, place);
     }
     power_up_refuses(&COUNTER, &[], 10, 0);
     power_up_refuses(&COUNTER, &[77, 78], 10, 0);
+    power_up_refuses(&COUNTER, &[77, 78, 79, 80], 10, 0);
 }
 
 #[test]
 fn a_refused_step_changes_nothing() {
     for (image, number, place) in bad_images() {
-        step_refuses(&image, (&[3], &[2], 6), number, place);
+        step_refuses(&image, (&[3, 1, 0], &[2], 6), number, place);
     }
-    step_refuses(&COUNTER, (&[3, 3], &[2], 6), 10, 0);
-    step_refuses(&COUNTER, (&[77], &[2], 6), 11, 0);
-    step_refuses(&COUNTER, (&[3], &[], 6), 12, 0);
-    step_refuses(&COUNTER, (&[3], &[77], 6), 13, 0);
-    step_refuses(&COUNTER, (&[3], &[2], 7), 14, 0);
+    step_refuses(&COUNTER, (&[3], &[2], 6), 10, 0);
+    step_refuses(&COUNTER, (&[77, 1, 0], &[2], 6), 11, 0);
+    step_refuses(&COUNTER, (&[3, 0, 0], &[2], 6), 20, 0);
+    step_refuses(&COUNTER, (&[3, 1, 0], &[], 6), 12, 0);
+    step_refuses(&COUNTER, (&[3, 1, 0], &[77], 6), 13, 0);
+    step_refuses(&COUNTER, (&[3, 1, 0], &[2], 7), 14, 0);
 }
 
 // The bad row byte of the run stands in its last cycle, and the cycles before
@@ -57,14 +59,15 @@ fn a_refused_step_changes_nothing() {
 #[test]
 fn a_refused_run_changes_nothing() {
     for (image, number, place) in bad_images() {
-        run_refuses(&image, 2, (&[3], &[2, 2], 2), number, place);
+        run_refuses(&image, 2, (&[3, 1, 0], &[2, 2], 2), number, place);
     }
-    run_refuses(&COUNTER, 4097, (&[3], &[2, 2], 2), 9, 0);
-    run_refuses(&COUNTER, 2, (&[3, 3], &[2, 2], 2), 10, 0);
-    run_refuses(&COUNTER, 2, (&[77], &[2, 2], 2), 11, 0);
-    run_refuses(&COUNTER, 2, (&[3], &[2, 2, 2], 2), 12, 0);
-    run_refuses(&COUNTER, 2, (&[3], &[2, 77], 2), 13, 1);
-    run_refuses(&COUNTER, 2, (&[3], &[2, 2], 3), 14, 0);
+    run_refuses(&COUNTER, 4097, (&[3, 1, 0], &[2, 2], 2), 9, 0);
+    run_refuses(&COUNTER, 2, (&[3], &[2, 2], 2), 10, 0);
+    run_refuses(&COUNTER, 2, (&[77, 1, 0], &[2, 2], 2), 11, 0);
+    run_refuses(&COUNTER, 2, (&[3, 0, 0], &[2, 2], 2), 20, 0);
+    run_refuses(&COUNTER, 2, (&[3, 1, 0], &[2, 2, 2], 2), 12, 0);
+    run_refuses(&COUNTER, 2, (&[3, 1, 0], &[2, 77], 2), 13, 1);
+    run_refuses(&COUNTER, 2, (&[3, 1, 0], &[2, 2], 3), 14, 0);
 }
 
 #[test]

@@ -9,19 +9,19 @@ use reference::{double, doubled_size, mux_byte, power_up, run, step, xor_byte, V
 
 // With a mark on a gate whenever a pin is marked, AND(3, 0) in cycle 2 would be
 // 2, and the register would be marked for ever. By the rule it is 0, and cycle
-// 3 is clear with the output byte 0 and the state 1.
+// 3 is clear with the output byte 0 and the register 1.
 #[test]
 fn the_counter_comes_clean() {
     assert_eq!(CYCLES[2][4], 0);
-    let mut state = [2];
+    let mut state = [2, 1, 0];
     let mut nets = [77; 6];
     assert!(step(&COUNTER, &mut state, &[1], &mut nets).is_ok());
     assert_eq!(nets, CYCLES[2]);
-    assert_eq!(state, [0]);
+    assert_eq!(state, [0, 0, 0]);
     let verdict = step(&COUNTER, &mut state, &[0], &mut nets);
     assert_eq!(verdict, Ok(Verdict::Clear));
     assert_eq!(nets[5], 0);
-    assert_eq!(state, [1]);
+    assert_eq!(state, [1, 0, 0]);
 }
 
 // Two registers take each other's net, so their bytes change places with every
@@ -29,17 +29,17 @@ fn the_counter_comes_clean() {
 #[test]
 fn registers_change_places() {
     let image = counted(&[(REG, 1, 1, 0), (REG, 0, 0, 0)]);
-    let mut state = [77; 2];
+    let mut state = [77; 4];
     let mut nets = [77; 2];
     power_up(&image, &mut state).unwrap();
-    assert_eq!(state, [1, 0]);
-    for expected in [[0, 1], [1, 0], [0, 1]] {
+    assert_eq!(state, [1, 0, 0, 0]);
+    for expected in [[0, 1, 0, 0], [1, 0, 0, 0], [0, 1, 0, 0]] {
         step(&image, &mut state, &[], &mut nets).unwrap();
         assert_eq!(state, expected);
     }
-    state = [2, 3];
+    state = [2, 3, 2, 0];
     run(&image, 3, &mut state, &[], &mut []).unwrap();
-    assert_eq!(state, [3, 2]);
+    assert_eq!(state, [3, 2, 2, 0]);
 }
 
 // A chain of three registers, in both net orders, delays a row byte by three
@@ -62,7 +62,7 @@ fn a_chain_of_registers_delays() {
     ]);
     for image in [forward, backward] {
         let mut outputs = [77; 5];
-        run(&image, 5, &mut [0; 3], &[3, 0, 0, 1, 0], &mut outputs).unwrap();
+        run(&image, 5, &mut [0; 5], &[3, 0, 0, 1, 0], &mut outputs).unwrap();
         assert_eq!(outputs, [0, 0, 0, 3, 0]);
     }
 }
@@ -74,7 +74,7 @@ fn outputs_go_on_after_the_first_flow() {
     let (answer, outputs, state) = counter_run();
     assert_eq!(answer.cycle, 1);
     assert_eq!(outputs[2..], [2, 0]);
-    assert_eq!(state, [1]);
+    assert_eq!(state, [1, 0, 0]);
 }
 
 // XOR of one marked net with itself has value 0 and mark 1, so it is 2, for
@@ -85,7 +85,7 @@ fn xor_of_a_marked_net_with_itself_is_marked() {
     let image = counted(&[(INPUT, 0, 0, 0), (XOR, 0, 0, 0), (OUT, 1, 1, 0)]);
     for row in [2, 3] {
         let mut nets = [77; 3];
-        let verdict = step(&image, &mut [], &[row], &mut nets);
+        let verdict = step(&image, &mut [0, 0], &[row], &mut nets);
         assert_eq!(verdict, Ok(Verdict::Flow(2)));
         assert_eq!(nets, [row, 2, 2]);
     }
@@ -99,7 +99,7 @@ fn the_doubled_xor_with_itself_is_marked() {
     let mut doubled = [77; 50];
     double(&image, &mut doubled).unwrap();
     let mut outputs = [77; 4];
-    run(&doubled, 2, &mut [], &[0, 1, 1, 1], &mut outputs).unwrap();
+    run(&doubled, 2, &mut [0, 0], &[0, 1, 1, 1], &mut outputs).unwrap();
     assert_eq!(outputs, [0, 1, 0, 1]);
 }
 
@@ -142,16 +142,16 @@ fn unknown_then_row() -> Vec<u8> {
 // Taken as a trusted 0, a start of 2 would give the output bytes 0, 1 and no
 // flow. Taken as unknown in every cycle, it would give 2, 3. It is unknown until
 // its first clock: cycle 0 shows 2, and cycle 1 the row byte 1 of cycle 0. The
-// state is then the row byte 0 of cycle 1.
+// register is then the row byte 0 of cycle 1.
 #[test]
 fn an_unknown_register_is_neither_trusted_nor_unknown_for_ever() {
-    let mut state = [77];
+    let mut state = [77; 3];
     let mut outputs = [77; 2];
     power_up(&unknown_then_row(), &mut state).unwrap();
     let answer = run(&unknown_then_row(), 2, &mut state, &[1, 0], &mut outputs).unwrap();
     assert_eq!((answer.cycle, answer.verdict), (0, Verdict::Flow(2)));
     assert_eq!(outputs, [2, 1]);
-    assert_eq!(state, [0]);
+    assert_eq!(state, [0, 0, 0]);
 }
 
 // A mark register with start 0 or 2 would show the plain value 0 in cycle 0,
@@ -161,7 +161,7 @@ fn an_unknown_register_is_neither_trusted_nor_unknown_for_ever() {
 fn the_mark_register_of_an_unknown_one_starts_at_1() {
     let mut doubled = [77; 50];
     double(&unknown_then_row(), &mut doubled).unwrap();
-    let mut state = [77; 2];
+    let mut state = [77; 4];
     let mut outputs = [77; 4];
     power_up(&doubled, &mut state).unwrap();
     run(&doubled, 2, &mut state, &[1, 0, 0, 0], &mut outputs).unwrap();
@@ -176,14 +176,14 @@ fn the_mark_register_of_an_unknown_one_starts_at_1() {
 fn an_inverted_pin_leaves_the_mark() {
     let image = counted(&[(INPUT, 0, 0, 0), (OUT, inverted(0), 1, 0)]);
     let mut outputs = [77; 4];
-    let answer = run(&image, 4, &mut [], &[0, 1, 2, 3], &mut outputs).unwrap();
+    let answer = run(&image, 4, &mut [0, 0], &[0, 1, 2, 3], &mut outputs).unwrap();
     assert_eq!((answer.cycle, answer.verdict), (2, Verdict::Flow(1)));
     assert_eq!(outputs, [1, 0, 3, 2]);
     let mut doubled = [77; 36];
     double(&image, &mut doubled).unwrap();
     let rows = [0, 0, 1, 0, 0, 1, 1, 1];
     let mut outputs = [77; 8];
-    run(&doubled, 4, &mut [], &rows, &mut outputs).unwrap();
+    run(&doubled, 4, &mut [0, 0], &rows, &mut outputs).unwrap();
     assert_eq!(outputs, [1, 0, 0, 0, 1, 1, 0, 1]);
 }
 
@@ -194,13 +194,13 @@ fn an_inverted_pin_leaves_the_mark() {
 #[test]
 fn a_register_is_inverted_at_the_clock_and_nowhere_else() {
     let image = counted(&[(INPUT, 0, 0, 0), (REG, inverted(0), 0, 0), (OUT, 1, 0, 0)]);
-    let mut state = [77];
+    let mut state = [77; 3];
     let mut outputs = [77; 3];
     power_up(&image, &mut state).unwrap();
-    assert_eq!(state, [0]);
+    assert_eq!(state, [0, 0, 0]);
     run(&image, 3, &mut state, &[0, 1, 0], &mut outputs).unwrap();
     assert_eq!(outputs, [0, 1, 0]);
-    assert_eq!(state, [1]);
+    assert_eq!(state, [1, 0, 0]);
 }
 
 // The bit stands for the pin and not for its net or its gate. AND of both pins
@@ -221,7 +221,7 @@ fn the_bit_inverts_neither_the_net_nor_the_gate() {
         ([1, 1], [0, 1]),
     ] {
         let mut nets = [77; 4];
-        step(&image, &mut [], &row, &mut nets).unwrap();
+        step(&image, &mut [0, 0], &row, &mut nets).unwrap();
         assert_eq!(nets[2..], ands);
     }
 }
@@ -245,13 +245,15 @@ fn mode_switch(a: u16, b: u16) -> Vec<u8> {
 fn a_marked_select_between_equal_constants_is_clear() {
     for (a, b, outputs) in [(0, 0, [0; 4]), (1, 1, [1; 4])] {
         let mut found = [77; 4];
-        let answer = run(&mode_switch(a, b), 4, &mut [], &[0, 1, 2, 3], &mut found).unwrap();
+        let image = mode_switch(a, b);
+        let answer = run(&image, 4, &mut [0, 0], &[0, 1, 2, 3], &mut found).unwrap();
         assert_eq!((answer.cycle, answer.verdict), (4, Verdict::Clear));
         assert_eq!(found, outputs);
     }
     for (a, b, outputs) in [(0, 1, [0, 1, 2, 3]), (1, 0, [1, 0, 3, 2])] {
         let mut found = [77; 4];
-        let answer = run(&mode_switch(a, b), 4, &mut [], &[0, 1, 2, 3], &mut found).unwrap();
+        let image = mode_switch(a, b);
+        let answer = run(&image, 4, &mut [0, 0], &[0, 1, 2, 3], &mut found).unwrap();
         assert_eq!((answer.cycle, answer.verdict), (2, Verdict::Flow(4)));
         assert_eq!(found, outputs);
     }
@@ -272,7 +274,7 @@ fn the_doubled_select_between_equal_constants_is_unmarked() {
         let mut doubled = [77; 113];
         double(&mode_switch(a, b), &mut doubled).unwrap();
         let mut found = [77; 4];
-        run(&doubled, 2, &mut [], &[0, 1, 1, 1], &mut found).unwrap();
+        run(&doubled, 2, &mut [0, 0], &[0, 1, 1, 1], &mut found).unwrap();
         assert_eq!(found, outputs);
     }
 }

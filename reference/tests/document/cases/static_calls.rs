@@ -32,25 +32,31 @@ fn static_calls_are_printed_like_the_plain_ones() {
     assert_eq!(page(&read_cases(&text)), expected);
 }
 
-// Without unknowns the two calls print what the plain ones print, but for start 2
-// at power-up: one register with start 2, which holds its byte.
+// Without unknowns the two calls print what the plain ones print, but for the count
+// behind the register, which is 0 here, and for start 2 at power-up: one register
+// with start 2, which holds its byte.
 #[test]
 fn static_calls_print_what_the_plain_ones_do() {
-    let print = |calls: [&str; 2]| {
+    let print = |calls: [&str; 2], count: &str| {
         let text = format!(
             "{COUNTER_LINE}\
-             \"p\" {} image @counter state 7\n\
-             \"r\" {} 4 image @counter state 0 rows 2 0 1 0 buffer 4*9\n",
+             \"p\" {} image @counter state 7{count}\n\
+             \"r\" {} 4 image @counter state 0{count} rows 2 0 1 0 buffer 4*9\n",
             calls[0], calls[1]
         );
         page(&read_cases(&text))
     };
-    let expected = "p: accepted, state 0\nr: flow 5, cycle 1, state 1, outputs 0 3 2 0\n";
-    assert_eq!(print(["Power-up", "Run"]), expected);
-    assert_eq!(print(["Awake", "Unknown"]), expected);
-    let start_2 = "\"p\" Power-up image 1 0 1 0 | 2 | 0 2 0 state 9\n\
+    let expected = |count: &str| {
+        format!(
+            "p: accepted, state 0{count}\n\
+             r: flow 5, cycle 1, state 1{count}, outputs 0 3 2 0\n"
+        )
+    };
+    assert_eq!(print(["Power-up", "Run"], " 0 0"), expected(" 0 0"));
+    assert_eq!(print(["Awake", "Unknown"], ""), expected(""));
+    let start_2 = "\"p\" Power-up image 1 0 1 0 | 2 | 0 2 0 state 3*9\n\
                    \"a\" Awake image 1 0 1 0 | 2 | 0 2 0 state 9\n";
-    let expected = "p: accepted, state 2\na: accepted, state 6\n";
+    let expected = "p: accepted, state 2 1 0\na: accepted, state 6\n";
     assert_eq!(page(&read_cases(start_2)), expected);
 }
 
