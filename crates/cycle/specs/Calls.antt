@@ -47,7 +47,7 @@ powerUpOf s st =
 unfoldable pub stateRefusal : Sizes → (st : List ℕ) → Option Refusal
 stateRefusal z st =
     badLength 10 (stateLength z) st
-    then badByte (plainBytes .bad) (plainBytes .in-state) 0 (take (z .registers) st)
+    then badByte (plainBytes .bad) 11 0 (take (z .registers) st)
     then refuse (miscounted (z .registers) st) 20 0
 
 -- 12 to 14, by the bytes that a call takes, and by the numbers of bytes that it wants in its rows and in the buffer that it fills

@@ -30,15 +30,14 @@ abbrev pub _then_ : Option Refusal → Option Refusal → Option Refusal
 some r then q = some r
 none then q = q
 
--- The bytes that a call takes: which are bad, and the numbers that a bad byte draws in the state and in the rows
+-- The bytes that a call takes: which are bad, and the number that a bad byte draws in the rows
 pub record Alphabet : Type 0 where
   pub bad : ℕ → Bool
-  pub in-state : ℕ
   pub in-rows : ℕ
 
--- 11 for a state byte above 3, and 13 for a row byte above 3
+-- 13 for a row byte above 3
 abbrev pub plainBytes : Alphabet
-plainBytes = record { bad = ltb 3; in-state = 11; in-rows = 13 }
+plainBytes = record { bad = ltb 3; in-rows = 13 }
 
 -- A term of the contracts of the tests of a lent slice: where `top` is the highest code, 5, which is no code, and every byte above top are bad
 abbrev pub badAbove : (top x : ℕ) → Bool
@@ -46,7 +45,7 @@ badAbove top x = eqb x 5 || ltb top x
 
 -- the bytes that a call takes, as the code has them (`Bytes` is the struct of src/lent.rt)
 abbrev pub alphabetOf : Bytes → Alphabet
-alphabetOf b = record { bad = badAbove (b .top); in-state = b .in_state; in-rows = b .in_rows }
+alphabetOf b = record { bad = badAbove (b .top); in-rows = b .in_rows }
 
 -- the refusal at the index of the first bad byte of a list, the first of which has index i
 unfoldable pub badByte : (bad : ℕ → Bool) (number i : ℕ) → List ℕ → Option Refusal

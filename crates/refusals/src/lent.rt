@@ -9,10 +9,9 @@ ghost use lib.Dec.{eqb};
 ghost use lib.ListN.{length};
 ghost use Rattle.refusals.specs.Refusals.{refuse, _then_, refusalIn, badAbove, badByte, badLength};
 
-// The bytes that a call takes: the highest code, and the numbers that a bad byte draws in the state and in the rows.
+// The bytes that a call takes: the highest code, and the number that a bad byte draws in the rows.
 pub struct Bytes {
     pub top: u8,
-    pub in_state: u32,
     pub in_rows: u32,
 }
 

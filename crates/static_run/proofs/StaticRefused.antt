@@ -65,8 +65,8 @@ static-none s st k rows outputs = (
   λ h.
       let t = simp (accepted, check-none, code-none) at h in
       let u = t .1 .1 in
-      (record { image = t .0; state = record { size = u .0; codes = u .1 .0 }; size = u .1 .1 .0; codes = u .1 .1 .1 .0 }, t .1 .0, u .1 .1 .1 .1),
-  λ r. simp (accepted, check-none, code-none) (r .0 .image, (r .1, (r .0 .state .size, (r .0 .state .codes, (r .0 .size, (r .0 .codes, r .2)))))),
+      (record { image = t .0; registers = record { size = u .0; codes = u .1 .0 }; size = u .1 .1 .0; codes = u .1 .1 .1 .0 }, t .1 .0, u .1 .1 .1 .1),
+  λ r. simp (accepted, check-none, code-none) (r .0 .image, (r .1, (r .0 .registers .size, (r .0 .registers .codes, (r .0 .size, (r .0 .codes, r .2)))))),
 )
 
 -- THE CYCLES go by the table of width 8
@@ -81,8 +81,8 @@ static-taken s st k rows outputs h =
     let r = t .0 in (
       record {
         image = check-none _ .1 (r .image);
-        registers = r .state .size;
-        state = pairs-coded (pairs-imp wide-code (r .state .codes));
+        registers = r .registers .size;
+        state = pairs-coded (pairs-imp wide-code (r .registers .codes));
         size = r .size;
         codes = pairs-coded (pairs-imp wide-code (r .codes));
       },

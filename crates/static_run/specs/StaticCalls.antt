@@ -38,7 +38,7 @@ staticPowerUpOf s st =
 
 -- "18 when a static row or state byte is 5 or above 6, where 11 and 13 would stand, with its index"
 abbrev pub staticBytes : Alphabet
-staticBytes = record { bad = noCode; in-state = 18; in-rows = 18 }
+staticBytes = record { bad = noCode; in-rows = 18 }
 
 -- 1 to 8, 9, 10, 18 of the state, 12, 18 of the rows, 14
 unfoldable pub staticRunRefusal : (s st : List ℕ) (k : ℕ) (rows outputs : List ℕ) → Option Refusal
@@ -46,7 +46,7 @@ staticRunRefusal s st k rows outputs =
     checkRefusal s
     then refuse (ltb 4096 k) 9 0
     then badLength 10 (sizesOf s .registers) st
-    then badByte (staticBytes .bad) (staticBytes .in-state) 0 st
+    then badByte (staticBytes .bad) 18 0 st
     then lentRefusal staticBytes (k * sizesOf s .inputs) (k * sizesOf s .outputs) rows outputs
 
 -- a static run is a run by the static rules

@@ -3,6 +3,7 @@ use checking::check;
 use image::sizes_of;
 use refusals::Bytes;
 use refusals::Outcome;
+use refusals::codes_refusal;
 use refusals::refused;
 use tracker::lent_refusal_by;
 ghost use mathlib.Core.Path.{_≡_};
@@ -42,18 +43,13 @@ pub fn static_run_refusal(
         return refused(9, 0);
     }
     let z = sizes_of(image);
+    let p = codes_refusal(10, 18, z.registers, 6, state);
+    if let Outcome::Refused(r) = p {
+        return Outcome::Refused(r);
+    }
     let bytes = Bytes {
         top: 6,
-        in_state: 18,
         in_rows: 18,
     };
-    lent_refusal_by(
-        bytes,
-        z.registers,
-        k * z.inputs,
-        k * z.outputs,
-        state,
-        rows,
-        outputs,
-    )
+    lent_refusal_by(bytes, k * z.inputs, k * z.outputs, rows, outputs)
 }

@@ -72,7 +72,6 @@ fn lent_refusal(
     }
     let bytes = Bytes {
         top: 3,
-        in_state: 11,
         in_rows: 13,
     };
     lent_refusal_by(bytes, inputs, filled, rows, buffer)

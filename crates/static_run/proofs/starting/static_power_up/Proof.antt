@@ -40,7 +40,7 @@ wakes-6 xs = refl
 returns-2 : tie.Need-returns-2
 returns-2 c =
     let started = c .before .before in
-    rw (started .take-starts .ensures, wakes-6) (sym (static-power-up-accepted _ _ (accepted (started .before .before .before))))
+    rw (started .take-starts .ensures .0, wakes-6) (sym (static-power-up-accepted _ _ (accepted (started .before .before .before))))
 
 pub static-power-up-spec : {M : Type 1} → statement M
 static-power-up-spec =

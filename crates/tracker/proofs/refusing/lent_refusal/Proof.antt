@@ -10,7 +10,7 @@ use Rattle.tracker.proofs.refusing.lent_refusal.Statement.{statement}
 use Rattle.tracker.proofs.refusing.lent_refusal.Tie as tie
 
 plain-lent : (inputs filled : ℕ) (rows buffer : List ℕ)
-    → lentRefusal (alphabetOf (record { top = 3; in_state = 11; in_rows = 13 })) inputs filled rows buffer ≡ lentRefusal plainBytes inputs filled rows buffer
+    → lentRefusal (alphabetOf (record { top = 3; in_rows = 13 })) inputs filled rows buffer ≡ lentRefusal plainBytes inputs filled rows buffer
 plain-lent inputs filled rows buffer = rw (plain-bad 13 0 rows)
 
 returns : tie.Need-returns
