@@ -8,6 +8,7 @@ use mathlib.Core.Option.{none}
 use mathlib.Core.Bool.{Bool, true, false, _&&_, _||_, not}
 use lib.Dec.{eqb, leb, lit≤}
 use lib.ListN.{length, getD}
+use lib.Seq.{length-take-le}
 use borrow.Author.Tests.{leb-true, eqb-true, not-true, not-false, le-leb, eq-eqb}
 use Rattle.image.specs.declared.image.Net.{Net}
 use Rattle.image.specs.Image.{sizesOf, netsOf}
@@ -17,7 +18,9 @@ use Rattle.refusals.proofs.Refusals.{then-none, refuse-none, neither, not-above
 use Rattle.net_checking.specs.NetCheck.{badPin, badValue, badUnlisted, netRefusal}
 use Rattle.checking.specs.Check.{wrongCounts, netsRefusal, checkRefusal}
 use Rattle.checking.proofs.Checked.{Checked, check-none}
-use Rattle.cycle.proofs.Calls.{IsState, Ready, power-up-none, step-none, run-none}
+use Rattle.cycle.specs.State.{registersIn}
+use Rattle.cycle.proofs.States.{IsState, state-size, right-count, counted-is}
+use Rattle.cycle.proofs.Calls.{Lent, power-up-none, step-none, run-none}
 use Rattle.figures.proofs.Refusing.{size-none, size-given}
 use Rattle.doubling.proofs.Checks.{double-none}
 use Rattle.unknowns.specs.Filling.{noCode}
@@ -142,19 +145,20 @@ codes xs = (
 )
 
 -- what a call takes, both ways
-state : {s st : List ℕ} → IsState s st → claim.AcceptedState s st
-state h = record { size = h .size; codes = each (h .codes) }
+pub state : {s st : List ℕ} → IsState s st → claim.AcceptedState s st
+state h = record { size = state-size h; codes = each (h .registers .codes); count = right-count h }
 
-is-state : {s st : List ℕ} → claim.AcceptedState s st → IsState s st
-is-state {st = st} h = record { size = h .size; codes = together st (h .codes) }
+pub is-state : {s st : List ℕ} → claim.AcceptedState s st → IsState s st
+is-state {s} {st} h =
+    counted-is (record { size = length-take-le _ st (omega (arith, h .size)); codes = together (registersIn s st) (h .codes) }) (h .count)
 
-ready : {s st : List ℕ} {n : ℕ} {rows : List ℕ} → claim.AcceptedImage s → claim.AcceptedState s st → claim.AcceptedRows n rows → Ready s st n rows
-ready {rows = rows} i st r = record { image = checked _ .1 i; state = is-state st; size = r .size; codes = together rows (r .codes) }
+lent : {s st : List ℕ} {n : ℕ} {rows : List ℕ} → claim.AcceptedImage s → claim.AcceptedState s st → claim.AcceptedRows n rows → Lent s st n rows
+lent {rows = rows} i st r = record { image = checked _ .1 i; state = is-state st; size = r .size; codes = together rows (r .codes) }
 
-image : {s st : List ℕ} {n : ℕ} {rows : List ℕ} → Ready s st n rows → claim.AcceptedImage s
+image : {s st : List ℕ} {n : ℕ} {rows : List ℕ} → Lent s st n rows → claim.AcceptedImage s
 image r = checked _ .0 (r .image)
 
-rows-of : {s st : List ℕ} {n : ℕ} {rows : List ℕ} → Ready s st n rows → claim.AcceptedRows n rows
+rows-of : {s st : List ℕ} {n : ℕ} {rows : List ℕ} → Lent s st n rows → claim.AcceptedRows n rows
 rows-of r = record { size = r .size; codes = each (r .codes) }
 
 -- the length of the pages
@@ -172,11 +176,11 @@ when-accepted =
       );
       step = λ s st row nets. (
         λ h. let t = step-none s st row nets .0 h in (image (t .0), state (t .0 .state), rows-of (t .0), t .1),
-        λ t. step-none s st row nets .1 (ready (t .0) (t .1) (t .2), t .3),
+        λ t. step-none s st row nets .1 (lent (t .0) (t .1) (t .2), t .3),
       );
       run = λ s st k rows outputs. (
         λ h. let t = run-none s st k rows outputs .0 h in (image (t .0), t .1, state (t .0 .state), rows-of (t .0), t .2),
-        λ t. run-none s st k rows outputs .1 (ready (t .0) (t .2) (t .3), t .1, t .4),
+        λ t. run-none s st k rows outputs .1 (lent (t .0) (t .2) (t .3), t .1, t .4),
       );
       static-power-up = λ s st. (
         λ h. let t = static-power-up-none s st .0 h in (checked s .0 (t .0), t .1),
@@ -188,7 +192,7 @@ when-accepted =
             let r = t .0 in (
               checked s .0 (r .image),
               t .1,
-              record { size = r .state .size; codes = codes st .0 (r .state .codes) },
+              record { size = r .registers .size; codes = codes st .0 (r .registers .codes) },
               record { size = r .size; codes = codes rows .0 (r .codes) },
               t .2,
             ),
@@ -196,7 +200,7 @@ when-accepted =
             static-none s st k rows outputs .1 (
               record {
                 image = checked s .1 (t .0);
-                state = record { size = t .2 .size; codes = codes st .1 (t .2 .codes) };
+                registers = record { size = t .2 .size; codes = codes st .1 (t .2 .codes) };
                 size = t .3 .size;
                 codes = codes rows .1 (t .3 .codes);
               },

@@ -10,7 +10,8 @@ use Rattle.gates.proofs.Laws.{Code}
 use Rattle.gates.proofs.Meaning.{agree-means, relations-mean}
 use Rattle.image.proofs.Pairs.{pairs-refl, pairs-getD, pairs-length, pairs-places}
 use Rattle.refusals.proofs.Refusals.{Codes}
-use Rattle.claims.specs.InBytes.{SameMarks}
+use Rattle.cycle.specs.State.{registersIn, AgreeStates}
+use Rattle.claims.specs.InBytes.{SameMarks, SameStates}
 
 pub agree-refl : (xs : List ℕ) → Agree xs xs
 agree-refl = pairs-refl (λ x. same)
@@ -39,3 +40,10 @@ agree-marks a =
       marks = λ i l. agree-means (pairs-getD i 0 same a) .0;
       values = λ i l. agree-means (pairs-getD i 0 same a) .1;
     }
+
+-- STATES likewise
+pub marks-agree-states : {s st : List ℕ} (st′ : List ℕ) → Codes (registersIn s st) → SameStates s st st′ → AgreeStates s st st′
+marks-agree-states {s} st′ c h = record { registers = marks-agree (registersIn s st′) c (h .registers); counts = h .counts }
+
+pub agree-marks-states : {s st st′ : List ℕ} → AgreeStates s st st′ → SameStates s st st′
+agree-marks-states a = record { registers = agree-marks (a .registers); counts = a .counts }

@@ -17,11 +17,11 @@ unfolding value mark byte andMark orMark xorMark muxMark notByte andByte orByte 
 gating = tt
 
 unfoldable pub checking : Unit {0}
-unfolding sizesOf netAt netsFrom netsOf pinNet count netRefusal netsRefusal checkRefusal badByte badLength powerUpRefusal stepRefusal runRefusal
+unfolding sizesOf netAt netsFrom netsOf pinNet count netRefusal netsRefusal checkRefusal badByte badLength markedCount withCount miscounted stateRefusal powerUpRefusal stepRefusal runRefusal
 checking = tt
 
 unfoldable pub running : Unit {0}
-unfolding pinByte netByte past walk bytesOf verdictFrom outputsFrom registers clocked cycleOf cyclesOf outputsOf stateAfter firstOf firstFlow start starts powerUpOf asStep stepOf asRun runOf
+unfolding pinByte netByte past walk bytesOf verdictFrom outputsFrom registers clocked cycleOf cyclesOf outputsOf stateAfter firstOf firstFlow start starts powerUpOf asStep stepOf asRun counting runOf
 running = tt
 
 pub examples : Examples

@@ -6,7 +6,8 @@ use mathlib.Core.Option.{none, some}
 use Rattle.image.specs.Image.{sizesOf, netsOf}
 use Rattle.refusals.specs.declared.answer.Refusal.{Refusal}
 use Rattle.cycle.specs.Cycle.{plain, cycleOf, cyclesOf, outputsOf, stateAfter, firstFlow}
-use Rattle.cycle.specs.Calls.{done, refused, asStep, stepRefusal, asRun, runRefusal}
+use Rattle.cycle.specs.State.{withCount, registersIn}
+use Rattle.cycle.specs.Calls.{done, refused, asStep, stepRefusal, asRun, counting, runRefusal}
 use Rattle.cycle.proofs.Calls.{either-way, step-accepted, step-refused, run-accepted, run-refused}
 use Rattle.claims.specs.History.{Call, step, run, lent, refusalOf, CallAnswer, stepped, ran, callResult, history, accepted, cyclesIn, CallResult, TurnedBack, Made, AllMade, Histories}
 use Rattle.claims.proofs.Unchanged.{not-refused}
@@ -30,21 +31,22 @@ made-refused s st (run k rows outputs) r h = rw (h, run-refused s st k rows outp
 
 pub made-step :
     (s st row nets : List ℕ) → stepRefusal s st row nets ≡ none
-    → let c = cycleOf plain (netsOf s) row st in
-    callResult s st (step row nets) ≡ record { answer = stepped (done (c .verdict)); buffer = c .bytes; state = c .state; cycles = asStep c ∷ [] }
+    → let c = cycleOf plain (netsOf s) row (registersIn s st) in
+    callResult s st (step row nets) ≡ record { answer = stepped (done (c .verdict)); buffer = c .bytes; state = withCount (c .state); cycles = asStep c ∷ [] }
 unfolding callResult asStep
 made-step s st row nets h = rw (h, step-accepted s st row nets h)
 
 pub made-run :
     (s st : List ℕ) (k : ℕ) (rows outputs : List ℕ) → runRefusal s st k rows outputs ≡ none
-    → let cs = cyclesOf plain (netsOf s) (sizesOf s .inputs) k rows st in
-    callResult s st (run k rows outputs) ≡ record { answer = ran (done (firstFlow 0 cs)); buffer = outputsOf cs; state = stateAfter st cs; cycles = map asStep cs }
-unfolding callResult asRun
+    → let rs = registersIn s st in
+    let cs = cyclesOf plain (netsOf s) (sizesOf s .inputs) k rows rs in
+    callResult s st (run k rows outputs) ≡ record { answer = ran (done (firstFlow 0 cs)); buffer = outputsOf cs; state = withCount (stateAfter rs cs); cycles = map asStep cs }
+unfolding callResult asRun counting
 made-run s st k rows outputs h = rw (h, run-accepted s st k rows outputs h, run-is-steps s st k rows outputs h .cycles)
 
 -- so every call gives what the step or run gives, and so does every call of a list, from the state that the one before it left
 pub made : (s st : List ℕ) (c : Call) → Made s st c (callResult s st c)
-unfolding callResult asStep asRun
+unfolding callResult asStep asRun counting
 made s st (step row nets) =
     either-way (stepRefusal s st row nets)
     (λ h. rw (callResult, h) (Made.step-done refl (ap (λ o. o .answer) (step-accepted s st row nets h))))
@@ -56,7 +58,7 @@ made s st (run k rows outputs) =
 
 -- and it gives nothing else
 pub made-is : {s st : List ℕ} {c : Call} {m : CallResult} → Made s st c m → m ≡ callResult s st c
-unfolding turned lent refusalOf asStep asRun
+unfolding turned lent refusalOf asStep asRun counting
 made-is {s} {st} (Made.step-refused {row} {nets} e h) =
     either-way (stepRefusal s st row nets)
     (λ n. absurd (not-refused (rw (e, step-accepted s st row nets n) at h)))

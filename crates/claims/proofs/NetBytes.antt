@@ -14,7 +14,6 @@ use Rattle.image.proofs.Nets.{net-in, length-nets}
 use Rattle.net_checking.proofs.Passes.{Passes, is-const, is-input, is-reg, is-not, is-and, is-or, is-xor, is-mux, is-out}
 use Rattle.checking.proofs.Checked.{Checked, check-none, net-passes}
 use Rattle.cycle.specs.Cycle.{pinByte, netByte, clocked, cycleOf}
-use Rattle.cycle.specs.Calls.{stateLength}
 use Rattle.cycle.proofs.Selections.{Selection, outputs-selected, registers-selected, selection-length, place-below, selection-place}
 use Rattle.cycle.proofs.Walks.{WorkedOut, bytes-length, worked-out}
 use Rattle.cycle.proofs.Ruling as ruling
@@ -34,7 +33,7 @@ module _ {s : List ℕ} (i : ℕ) (h : i < sizesOf s .nets) where
   selected z e = counted e (selection-length z 0 (netsOf s)) (selection-place z (netsOf s) i _ (omega (arith, length-nets s)) e)
 
   -- net i, by its kind
-  module _ (c : Checked s) {row st bs : List ℕ} (inputs : length row ≡ sizesOf s .inputs) (registers : length st ≡ stateLength (sizesOf s)) where
+  module _ (c : Checked s) {row st bs : List ℕ} (inputs : length row ≡ sizesOf s .inputs) (registers : length st ≡ sizesOf s .registers) where
     reads : {x : Net} (w : WorkedOut gateByte (netsOf s) row st bs i x) (p : ℕ) → pinNet p < i → pinByte gateByte (w .before .bytes) p ≡ pinByte gateByte bs p
     reads w p l = pin-same gateByte (w .before .bytes) bs p (w .pins (pinNet p) l)
 

@@ -7,7 +7,8 @@ use lib.ListN.{length}
 use Rattle.image.specs.Image.{sizesOf}
 use Rattle.checking.proofs.Checked.{Checked}
 use Rattle.cycle.specs.Cycle.{Verdict, FirstFlow}
-use Rattle.cycle.specs.Calls.{stateLength, done, powerUpRefusal, powerUpOf, stepRefusal, stepOf, runRefusal, runOf}
+use Rattle.cycle.specs.State.{stateLength}
+use Rattle.cycle.specs.Calls.{done, powerUpRefusal, powerUpOf, stepRefusal, stepOf, runRefusal, runOf}
 use Rattle.cycle.proofs.Calls.{either-way, power-up-none, power-up-refused, step-refused, run-refused}
 use Rattle.doubling.specs.Doubling.{doubleRefusal, doubleOf}
 use Rattle.doubling.proofs.Checks.{double-refused}

@@ -1,5 +1,5 @@
 -- The small terms of the statements.
-use Prim.Native.Nat.{ℕ, zero, suc, _/_, _≤_}
+use Prim.Native.Nat.{ℕ, zero, suc, _/_, _%_, _≤_}
 use native.Mathlib.Omega.{arith}
 use mathlib.Core.Logic.{_↔_}
 use mathlib.Core.Path.{_≡_, refl, sym}
@@ -9,9 +9,19 @@ use Rattle.gates.specs.Rules.{mark}
 use Rattle.gates.specs.Relations.{same}
 use Rattle.image.specs.Image.{sizesOf, netsOf, count}
 use Rattle.image.proofs.Nets.{length-nets}
+use Rattle.cycle.specs.State.{markedCount, withCount}
 use Rattle.cycle.specs.Cycle.{cycleOf}
 use Rattle.doubled.proofs.Positions.{value-end}
 use Rattle.claims.specs.Terms.{Terms}
+
+-- the mark that is counted
+mark-1 : (x : ℕ) → x / 2 % 2 ≡ 1 → mark x ≡ true
+unfolding mark
+mark-1 x h = rw h
+
+mark-0 : (x : ℕ) → x / 2 % 2 ≡ 0 → mark x ≡ false
+unfolding mark
+mark-0 x h = rw h
 
 marked : (x : ℕ) → x ≤ 3 → (mark x ≡ true) ↔ (x / 2 ≡ 1)
 unfolding mark
@@ -22,7 +32,7 @@ marked (suc (suc (suc zero))) h = (λ e. refl, λ e. refl)
 marked (suc (suc (suc (suc x)))) h = absurd (omega arith)
 
 pub terms : Terms
-unfolding count cycleOf
+unfolding count cycleOf markedCount withCount
 terms =
     record {
       kinds = (refl, refl, refl, refl, refl, refl, refl, refl, refl);
@@ -30,6 +40,11 @@ terms =
       count-one = λ x xs. rw (eq-eqb (x .kind) (x .kind) refl);
       count-other = λ k x xs h. rw (ne-eqb (x .kind) k h) (omega arith);
       marked = marked;
+      marked-none = refl;
+      marked-one = λ x xs h. rw (mark-1 x h);
+      marked-other = λ x xs h. rw (mark-0 x h) (omega arith);
+      state-length = λ s. refl;
+      state = λ rs. refl;
       same = λ x. same;
       outputs = λ xs row st. refl;
       size = λ s. sym (value-end (netsOf s) (sizesOf s .nets) (omega (arith, length-nets s)));

@@ -6,7 +6,7 @@ use Rattle.cycle.proofs.Calls.{step-none}
 use Rattle.claims.specs.History.{stepped, step, callResult, Finished}
 use Rattle.claims.specs.TwoRun.{Matched}
 use Rattle.claims.specs.InBytes.{StepsAgree}
-use Rattle.claims.proofs.Agreeing.{marks-agree, agree-marks}
+use Rattle.claims.proofs.Agreeing.{marks-agree, agree-marks, marks-agree-states, agree-marks-states}
 use Rattle.claims.proofs.TwoRun.{demand3}
 use Rattle.claims.proofs.Taken.{step-taken}
 use Rattle.claims.proofs.OneCall.{same-one}
@@ -18,6 +18,6 @@ steps-agree s st st′ row row′ nets nets′ v q p l h =
     let matched = Forall₂·cons (Matched.steps (marks-agree row′ (r .codes) p) l) Forall₂·nil in
     let two = demand3 s (check-none s .1 (r .image)) (step row nets ∷ []) (step row′ nets′ ∷ []) matched in
     let ends : Finished (stepped (stepOf s st row nets .answer)) = rw h Finished.a-step in
-    let o = same-one (two .from-states st st′ (marks-agree st′ (r .state .codes) q)) ends in
+    let o = same-one (two .from-states st st′ (marks-agree-states st′ (r .state .registers .codes) q)) ends in
     let e = o .answer in
-    record { answer = cc; nets = agree-marks (o .buffer); state = agree-marks (o .state) }
+    record { answer = cc; nets = agree-marks (o .buffer); state = agree-marks-states (o .state) }

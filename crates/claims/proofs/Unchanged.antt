@@ -22,7 +22,7 @@ pub not-some : {r : Refusal} → none ≡ some r → ⊥
 not-some h = let z : _≡_ {A = ℕ} 0 1 = cc in omega arith
 
 pub unchanged : Unchanged
-unfolding asStep asRun
+unfolding asStep asRun counting
 unchanged =
     record {
       power-up = λ s st r h.

@@ -1,16 +1,17 @@
--- When a call is accepted: exactly if its image is as document 01's "The image" asks, and K, the state, the rows and the buffer have the lengths and bytes that 9 to 16, 18 and 19 ask for.
+-- When a call is accepted: exactly if its image is as document 01's "The image" asks, and K, the state, the rows and the buffer have the lengths and bytes that 9 to 16 and 18 to 20 ask for.
 -- Which refusal is given otherwise is Refused. The kinds are 0 CONST, 1 INPUT, 2 REG, 3 NOT, 4 AND, 5 OR, 6 XOR, 7 MUX, 8 OUT.
 use Prim.Native.Nat.{ℕ, _+_, _*_, _/_, _≤_, _<_}
 use mathlib.Core.Logic.{_↔_}
 use mathlib.Core.Path.{_≡_}
 use mathlib.Core.List.{List}
 use mathlib.Core.Option.{none}
-use lib.ListN.{length, getD}
+use lib.ListN.{length, getD, drop}
 use Rattle.image.specs.declared.image.Net.{Net}
-use Rattle.image.specs.Image.{sizesOf, netsOf, count}
+use Rattle.image.specs.Image.{sizesOf, netsOf, count, u16}
 use Rattle.image.specs.Pins.{pinNet}
 use Rattle.checking.specs.Check.{checkRefusal}
-use Rattle.cycle.specs.Calls.{stateLength, powerUpRefusal, stepRefusal, runRefusal}
+use Rattle.cycle.specs.State.{stateLength, markedCount, registersIn}
+use Rattle.cycle.specs.Calls.{powerUpRefusal, stepRefusal, runRefusal}
 use Rattle.doubled.specs.Doubled.{doubledSize}
 use Rattle.figures.specs.Figures.{doubledSizeOf}
 use Rattle.doubling.specs.Doubling.{doubleRefusal}
@@ -73,10 +74,20 @@ pub record AcceptedImage (s : List ℕ) : Type 0 where
 abbrev pub NoneAbove3 : List ℕ → Type 0
 NoneAbove3 xs = (i : ℕ) → i < length xs → getD xs i 0 ≤ 3
 
--- neither 10 nor 11 applies
+-- register bytes: R of them, none above 3
+pub record AcceptedRegisters (s rs : List ℕ) : Type 0 where
+  pub size : length rs ≡ sizesOf s .registers
+  pub codes : NoneAbove3 rs
+
+-- 20 does not apply: the two bytes behind those of the registers are the number of marked registers, low byte first
+abbrev pub RightCount : (s st : List ℕ) → Type 0
+RightCount s st = drop (sizesOf s .registers) st ≡ u16 (markedCount (registersIn s st))
+
+-- none of 10, 11 and 20 applies. 11 looks at the register bytes alone
 pub record AcceptedState (s st : List ℕ) : Type 0 where
   pub size : length st ≡ stateLength (sizesOf s)
-  pub codes : NoneAbove3 st
+  pub codes : NoneAbove3 (registersIn s st)
+  pub count : RightCount s st
 
 -- neither 12 nor 13 applies, with n row bytes wanted
 pub record AcceptedRows (n : ℕ) (rows : List ℕ) : Type 0 where

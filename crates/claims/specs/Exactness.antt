@@ -12,10 +12,10 @@ use Rattle.image.specs.Image.{sizesOf, netsOf}
 use Rattle.checking.specs.Check.{checkRefusal}
 use Rattle.cycle.specs.Cycle.{plain, cycleOf}
 use Rattle.claims.specs.Reading.{netOf}
-use Rattle.claims.specs.Accepted.{AcceptedState, AcceptedRows}
+use Rattle.claims.specs.Accepted.{AcceptedRegisters, AcceptedRows}
 use Rattle.claims.specs.Ways.{ways}
 
--- the byte of net i in a cycle with this row and state
+-- the byte of net i in a cycle with this row and these register bytes, which are all of the state that a cycle sees
 abbrev pub byteOf : (s row st : List ℕ) (i : ℕ) → ℕ
 byteOf s row st i = getD (cycleOf plain (netsOf s) row st .bytes) i 0
 
@@ -32,8 +32,8 @@ pub record Change (s row st : List ℕ) (i : ℕ) : Type 0 where
   pub states : Agree st other-state
   pub changed : byteOf s other-row other-state i % 2 ≡ byteOf s row st i % 2 → ⊥
 
--- every net of an accepted image, in a cycle with any accepted row and state; proved as `exactness`. That what changes is marked holds of every net (`steps-agree`)
+-- every net of an accepted image, in a cycle with any accepted row and register bytes; proved as `exactness`. That what changes is marked holds of every net (`steps-agree`)
 abbrev pub Exactness : Type 0
 Exactness =
-    (s row st : List ℕ) → checkRefusal s ≡ none → AcceptedRows (sizesOf s .inputs) row → AcceptedState s st
+    (s row st : List ℕ) → checkRefusal s ≡ none → AcceptedRows (sizesOf s .inputs) row → AcceptedRegisters s st
     → (i : ℕ) → i < sizesOf s .nets → NoReconvergence s row st i → (byteOf s row st i / 2 ≡ 1) ↔ Change s row st i

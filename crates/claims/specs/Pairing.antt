@@ -7,7 +7,8 @@ use lib.ListN.{length}
 use Rattle.image.specs.Image.{sizesOf, netsOf}
 use Rattle.checking.specs.Check.{checkRefusal}
 use Rattle.cycle.specs.Cycle.{outputsFrom}
-use Rattle.cycle.specs.Calls.{stateLength, Stepped, powerUpOf}
+use Rattle.cycle.specs.State.{stateLength, withCount, registersIn}
+use Rattle.cycle.specs.Calls.{Stepped, powerUpOf}
 use Rattle.groups.specs.Groups.{split}
 use Rattle.doubled.specs.Doubled.{doubledSize}
 use Rattle.doubling.specs.Doubling.{doubleOf}
@@ -17,6 +18,11 @@ use Rattle.claims.specs.History.{Call, step, run, history, accepted, cyc
 pub data Again (d : List ℕ) : Call → Call → Type 0 where
   step-again : {row b b′ : List ℕ} → length b′ ≡ sizesOf d .nets → Again d (step row b) (step (split row) b′)
   run-again : {k : ℕ} {rows b b′ : List ℕ} → length b′ ≡ k * sizesOf d .outputs → Again d (run k rows b) (run k (split rows) b′)
+
+-- "register j's value and mark then start the doubled registers 2j and 2j + 1, in net order": the doubled netlist's state with the values and marks of the registers of a state of s.
+-- It "carries its count too, which pairing does not compare": that of its own registers
+abbrev pub splitState : (s st : List ℕ) → List ℕ
+splitState s st = withCount (split (registersIn s st))
 
 -- the plain values at the outputs of an image in a cycle
 unfoldable pub shown : List ℕ → Stepped → List ℕ
@@ -40,8 +46,8 @@ AllPaired s d st st′ = (cs cs′ : List Call) → Forall₂ (Again d) (accepte
 -- what doubling writes into buf, beside its source
 pub record DoublingPairs (s buf : List ℕ) : Type 0 where
   pub written : doubleOf s buf .refusal ≡ none
-  -- from any state: "register j's value and mark then start the doubled registers 2j and 2j + 1, in net order". On bytes that are no state all calls are refused, and none is made again
-  pub from-state : let d = doubleOf s buf .buffer in (st : List ℕ) → AllPaired s d st (split st)
+  -- from any state. On bytes that are no state all calls are refused, and none is made again
+  pub from-state : let d = doubleOf s buf .buffer in (st : List ℕ) → AllPaired s d st (splitState s st)
   -- each from its own power-up, of states that held the bytes a and b before
   pub from-power-up :
       let d = doubleOf s buf .buffer in

@@ -1,5 +1,5 @@
 -- The calls as document 01 has them without document 02's L3: a pin is the number of a net, and reads the byte of that net. Upright says that images without inverted pins give
--- by every call what these definitions give. Nothing else uses them. What does not look at operands is that of the other definitions, `plainBytes` too, which are the bytes that the calls take.
+-- by every call what these definitions give. Nothing else uses them. What does not look at operands is that of the other definitions, `plainBytes` and the state with its count too.
 use Prim.Native.Nat.{ℕ, zero, suc, _+_, _*_}
 use mathlib.Core.List.{List, [], _∷_, _++_}
 use mathlib.Core.Option.{Option, none, some}
@@ -16,7 +16,8 @@ use Rattle.net_checking.specs.Operands.{listsA, listsB, listsC, pinA, pinB, pin
 use Rattle.checking.specs.Check.{wrongCounts}
 use Rattle.checking.specs.Counts.{kindCounts}
 use Rattle.cycle.specs.Cycle.{Walk, verdictFrom, outputsFrom, registers, Cycle}
-use Rattle.cycle.specs.Calls.{stateLength, refused, starts, PoweredUp, lentRefusal, Stepped, asStep, Ran, asRun}
+use Rattle.cycle.specs.State.{stateLength, withCount, registersIn}
+use Rattle.cycle.specs.Calls.{refused, starts, PoweredUp, stateRefusal, lentRefusal, Stepped, asStep, Ran, asRun, counting}
 use Rattle.groups.specs.Groups.{groupOf}
 use Rattle.doubled.specs.Doubled.{doubledSize, valueNet, markNet}
 use Rattle.figures.specs.Figures.{Figures, noFigures}
@@ -97,14 +98,14 @@ plainCycles xs inputs (suc k) rows state =
 unfoldable pub plainPowerUp : (s st : List ℕ) → PoweredUp
 plainPowerUp s st =
     elim (plainCheck s then badLength 10 (stateLength (sizesOf s)) st) [
-      | none ↦ record { refusal = none; state = starts (netsOf s) }
+      | none ↦ record { refusal = none; state = withCount (starts (netsOf s)) }
       | some r ↦ record { refusal = some r; state = st }
     ]
 
 unfoldable pub plainStep : (s st row nets : List ℕ) → Stepped
 plainStep s st row nets =
-    elim (plainCheck s then lentRefusal plainBytes (stateLength (sizesOf s)) (sizesOf s .inputs) (sizesOf s .nets) st row nets) [
-      | none ↦ asStep (plainCycle (netsOf s) row st)
+    elim (plainCheck s then stateRefusal (sizesOf s) st then lentRefusal plainBytes (sizesOf s .inputs) (sizesOf s .nets) row nets) [
+      | none ↦ asStep (plainCycle (netsOf s) row (registersIn s st))
       | some r ↦ record { answer = refused r; state = st; nets = nets }
     ]
 
@@ -112,8 +113,9 @@ unfoldable pub plainRun : (s st : List ℕ) (k : ℕ) (rows outputs : List ℕ) 
 plainRun s st k rows outputs =
     elim (plainCheck s
     then refuse (ltb 4096 k) 9 0
-    then lentRefusal plainBytes (stateLength (sizesOf s)) (k * sizesOf s .inputs) (k * sizesOf s .outputs) st rows outputs) [
-      | none ↦ asRun st (plainCycles (netsOf s) (sizesOf s .inputs) k rows st)
+    then stateRefusal (sizesOf s) st
+    then lentRefusal plainBytes (k * sizesOf s .inputs) (k * sizesOf s .outputs) rows outputs) [
+      | none ↦ let rs = registersIn s st in counting (asRun rs (plainCycles (netsOf s) (sizesOf s .inputs) k rows rs))
       | some r ↦ record { answer = refused r; state = st; outputs = outputs }
     ]
 

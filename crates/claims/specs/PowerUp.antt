@@ -7,11 +7,13 @@ use lib.ListN.{length, getD}
 use Rattle.gates.specs.Kinds.{REG}
 use Rattle.image.specs.Image.{sizesOf}
 use Rattle.checking.specs.Check.{checkRefusal}
-use Rattle.cycle.specs.Calls.{stateLength, powerUpOf}
+use Rattle.cycle.specs.State.{stateLength}
+use Rattle.cycle.specs.Calls.{powerUpOf}
+use Rattle.claims.specs.Accepted.{RightCount}
 use Rattle.claims.specs.NetBytes.{netOf, placeOf, Counted}
 
 -- "each register takes its start value [..] with mark 0" (document 01), but "a register with start 2 powers up with value 0 and mark 1" (document 02, L2):
--- R bytes, and for the register of net i the one of its start, whatever the state held
+-- R + 2 bytes, and for the register of net i the one of its start, whatever the state held. What stands behind the registers is said in CountKept
 pub record Starts (s st : List ℕ) : Type 0 where
   pub done : powerUpOf s st .refusal ≡ none
   pub size : length (powerUpOf s st .state) ≡ stateLength (sizesOf s)
@@ -30,7 +32,8 @@ pub data WakesWith : (start byte : ℕ) → Type 0 where
   unknown-0 : WakesWith 2 2
   unknown-1 : WakesWith 2 3
 
--- a state with which an array of s may wake: R bytes, such a byte for each register
+-- a state with which an array of s may wake: such a byte for each register, and behind these their count
 pub record Wakes (s st : List ℕ) : Type 0 where
   pub size : length st ≡ stateLength (sizesOf s)
+  pub count : RightCount s st
   pub register : (i : ℕ) → i < sizesOf s .nets → netOf s i .kind ≡ REG → WakesWith (netOf s i .b) (getD st (placeOf REG s i) 0)

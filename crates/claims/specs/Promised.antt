@@ -15,6 +15,7 @@ use Rattle.claims.specs.PowerUp.{PowerUpStarts}
 use Rattle.claims.specs.Verdicts.{Verdicts, FirstFlows}
 use Rattle.claims.specs.Steps.{StepIsCycle, RunIsSteps}
 use Rattle.claims.specs.History.{Histories}
+use Rattle.claims.specs.CountKept.{CountKept}
 use Rattle.claims.specs.DoubledImage.{DoubledChecks, DoublingWrites, DoubledReadsAll, DoubledPlaced, DoubledUnseen}
 use Rattle.claims.specs.Figures.{FiguresWritten, TurnsBackAlike, KindsAddUp, NoneBesideRefusal}
 use Rattle.claims.specs.Bound.{SizeBound, BoundReached}
@@ -82,6 +83,9 @@ pub record Promised : Type 0 where
   pub run-is-steps : RunIsSteps
   -- Over a list of calls, each call works on the state that the one before it left, refused calls included, and gives one result.
   pub histories : Histories
+  -- THE COUNT OF MARKED REGISTERS (document 02, L7). After power-up and after every accepted step and run the last two bytes of the state are the number of marked registers; so a
+  -- list of calls that hands its state on never draws 20.
+  pub count-kept : CountKept
   -- The doubled netlist shows the same values and marks as its source, in every cycle of every list of calls, from power-up and from any state.
   pub demand2 : Demand2
   -- The image that doubling writes passes checking, so that refusal 17 is never given.

@@ -1,4 +1,4 @@
--- Which refusal each call gives: its number, its place, and the order of the conditions (document 01, "When a call turns back"; document 02, L4, for 18, and L6 for pages).
+-- Which refusal each call gives: its number, its place, and the order of the conditions (document 01, "When a call turns back"; document 02, L4, for 18, L6 for pages, and L7 for 20).
 -- Each condition stands with what has to hold for it to be tried, so that of any call at most one of them holds; where none does, the call is accepted (Accepted).
 use Prim.Native.Nat.{ℕ, _+_, _*_, _≤_, _<_}
 use mathlib.Core.Logic.{_↔_, _⊎_}
@@ -10,14 +10,15 @@ use Rattle.image.specs.declared.image.Net.{Net}
 use Rattle.image.specs.Image.{sizesOf, netsOf}
 use Rattle.refusals.specs.declared.answer.Refusal.{Refusal}
 use Rattle.checking.specs.Check.{checkRefusal}
-use Rattle.cycle.specs.Calls.{stateLength, refused, powerUpOf, stepOf, runOf}
+use Rattle.cycle.specs.State.{stateLength, registersIn}
+use Rattle.cycle.specs.Calls.{refused, powerUpOf, stepOf, runOf}
 use Rattle.doubled.specs.Doubled.{doubledSize}
 use Rattle.figures.specs.Figures.{doubledSizeOf}
 use Rattle.doubling.specs.Doubling.{doubleOf}
 use Rattle.static_run.specs.StaticCalls.{staticPowerUpOf, staticRunOf}
 use Rattle.paging.specs.Paging.{pageOf}
 use Rattle.claims.specs.Reading.{netOf}
-use Rattle.claims.specs.Accepted.{Sized, PinsBelow, ValuesListed, UnlistedZero, NetsAccepted, RightCounts, AcceptedImage, AcceptedState, AcceptedRows, AcceptedStaticState, AcceptedStaticRows, NoneAbove3, AcceptedRecord, pagesBytes}
+use Rattle.claims.specs.Accepted.{Sized, PinsBelow, ValuesListed, UnlistedZero, NetsAccepted, RightCounts, AcceptedImage, RightCount, AcceptedState, AcceptedRows, AcceptedStaticState, AcceptedStaticRows, NoneAbove3, AcceptedRecord, pagesBytes}
 
 -- a call, with the state and the bytes that it is lent beside its image
 pub data AnyCall : Type 0 where
@@ -74,11 +75,12 @@ module _ (s : List ℕ) where
     bad-net : {number i : ℕ} → Sized s → i < sizesOf s .nets → NetsAccepted s i → BadNet (sizesOf s .nets) i (netOf s i) number → BadImage number i
     miscounted : Sized s → NetsAccepted s (sizesOf s .nets) → (RightCounts s → ⊥) → BadImage 8 0
 
-  -- of 10 to 14, where rowBytes bytes are wanted in the rows and filled bytes in the buffer
+  -- of 10 to 14 and 20, which stands directly after 11, where rowBytes bytes are wanted in the rows and filled bytes in the buffer
   module _ (rowBytes filled : ℕ) (st rows buffer : List ℕ) where
     pub data BadLent : (number place : ℕ) → Type 0 where
       state-size : (length st ≡ stateLength (sizesOf s) → ⊥) → BadLent 10 0
-      state-byte : {i : ℕ} → length st ≡ stateLength (sizesOf s) → FirstAbove3 st i → BadLent 11 i
+      state-byte : {i : ℕ} → length st ≡ stateLength (sizesOf s) → FirstAbove3 (registersIn s st) i → BadLent 11 i
+      state-count : length st ≡ stateLength (sizesOf s) → NoneAbove3 (registersIn s st) → (RightCount s st → ⊥) → BadLent 20 0
       row-size : AcceptedState s st → (length rows ≡ rowBytes → ⊥) → BadLent 12 0
       row-byte : {i : ℕ} → AcceptedState s st → length rows ≡ rowBytes → FirstAbove3 rows i → BadLent 13 i
       buffer-size : AcceptedState s st → AcceptedRows rowBytes rows → (length buffer ≡ filled → ⊥) → BadLent 14 0
@@ -97,12 +99,12 @@ module _ (s : List ℕ) where
     bad-image : {c : AnyCall} {number place : ℕ} → BadImage number place → Refused c number place
     -- 10: power-up
     bad-state : {st : List ℕ} → AcceptedImage s → (length st ≡ stateLength (sizesOf s) → ⊥) → Refused (power-up st) 10 0
-    -- 10 to 14: a step
+    -- 10 to 14 and 20: a step
     bad-step :
         {st row nets : List ℕ} {number place : ℕ} → AcceptedImage s
         → BadLent (sizesOf s .inputs) (sizesOf s .nets) st row nets number place
         → Refused (step st row nets) number place
-    -- 9, and then 10 to 14: a run
+    -- 9, and then 10 to 14 and 20: a run
     many-cycles : {st : List ℕ} {k : ℕ} {rows outputs : List ℕ} → AcceptedImage s → 4096 < k → Refused (run st k rows outputs) 9 0
     bad-run :
         {st : List ℕ} {k : ℕ} {rows outputs : List ℕ} {number place : ℕ} → AcceptedImage s → k ≤ 4096

@@ -1,14 +1,15 @@
 -- The small terms by which the other statements are made, each by what it gives and not by its definition.
-use Prim.Native.Nat.{ℕ, _+_, _/_, _≤_}
+use Prim.Native.Nat.{ℕ, _+_, _/_, _%_, _≤_}
 use mathlib.Core.Logic.{_↔_}
 use mathlib.Core.Path.{_≡_}
-use mathlib.Core.List.{List, [], _∷_}
+use mathlib.Core.List.{List, [], _∷_, _++_}
 use mathlib.Core.Bool.{true}
 use Rattle.gates.specs.Kinds.{CONST, INPUT, REG, NOT, AND, OR, XOR, MUX, OUT}
 use Rattle.gates.specs.Rules.{mark}
 use Rattle.gates.specs.Relations.{AgreeByte}
 use Rattle.image.specs.declared.image.Net.{Net}
 use Rattle.image.specs.Image.{sizesOf, netsOf, count}
+use Rattle.cycle.specs.State.{stateLength, markedCount, withCount}
 use Rattle.cycle.specs.Cycle.{plain, cycleOf, outputsFrom}
 use Rattle.doubled.specs.Doubled.{doubledSize, valueNet}
 
@@ -22,6 +23,13 @@ pub record Terms : Type 0 where
   pub count-other : (k : ℕ) (x : Net) (xs : List Net) → (x .kind ≡ k → ⊥) → count k (x ∷ xs) ≡ count k xs
   -- a byte has mark 1 exactly if it is 2 or 3
   pub marked : (x : ℕ) → x ≤ 3 → (mark x ≡ true) ↔ (x / 2 ≡ 1)
+  -- `markedCount` counts the bytes with mark 1, and no others
+  pub marked-none : markedCount [] ≡ 0
+  pub marked-one : (x : ℕ) (xs : List ℕ) → x / 2 % 2 ≡ 1 → markedCount (x ∷ xs) ≡ 1 + markedCount xs
+  pub marked-other : (x : ℕ) (xs : List ℕ) → x / 2 % 2 ≡ 0 → markedCount (x ∷ xs) ≡ markedCount xs
+  -- a state is two bytes longer than its registers: these, and behind them their count, low byte first
+  pub state-length : (s : List ℕ) → stateLength (sizesOf s) ≡ sizesOf s .registers + 2
+  pub state : (rs : List ℕ) → withCount rs ≡ rs ++ markedCount rs % 256 ∷ markedCount rs / 256 ∷ []
   -- every byte agrees with itself, also one above 3
   pub same : (x : ℕ) → AgreeByte x x
   -- the outputs that are taken from the net bytes of a cycle are its outputs

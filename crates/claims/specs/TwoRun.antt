@@ -8,37 +8,37 @@ use Rattle.gates.specs.Relations.{Agree}
 use Rattle.image.specs.Image.{sizesOf, netsOf}
 use Rattle.refusals.specs.declared.answer.Refusal.{Refusal}
 use Rattle.checking.specs.Check.{checkRefusal}
-use Rattle.cycle.specs.Calls.{stateLength, Stepped, powerUpOf}
-use Rattle.groups.specs.Groups.{split}
+use Rattle.cycle.specs.State.{stateLength, AgreeStates}
+use Rattle.cycle.specs.Calls.{Stepped, powerUpOf}
 use Rattle.doubled.specs.Doubled.{doubledSize}
 use Rattle.doubling.specs.Doubling.{doubleOf}
 use Rattle.claims.specs.History.{Call, step, run, CallResult, history, accepted, cyclesIn, TurnedBack, Finished, AllFinished, Made, AllMade}
-use Rattle.claims.specs.Pairing.{Again, shown}
+use Rattle.claims.specs.Pairing.{Again, splitState, shown}
 
 -- what may stand at one place of the two lists
 pub data Matched : Call → Call → Type 0 where
   steps : {r r′ b b′ : List ℕ} → Agree r r′ → length b ≡ length b′ → Matched (step r b) (step r′ b′)
   runs : {k : ℕ} {r r′ b b′ : List ℕ} → Agree r r′ → length b ≡ length b′ → Matched (run k r b) (run k r′ b′)
 
--- in one cycle: the same verdict, and net and register bytes that agree
-pub record SameCycle (o o′ : Stepped) : Type 0 where
+-- in one cycle on the image s: the same verdict, net bytes that agree, and states that agree, in their register bytes and with equal counts
+pub record SameCycle (s : List ℕ) (o o′ : Stepped) : Type 0 where
   pub verdict : o .answer ≡ o′ .answer
   pub nets : Agree (o .nets) (o′ .nets)
-  pub state : Agree (o .state) (o′ .state)
+  pub state : AgreeStates s (o .state) (o′ .state)
 
 -- at one place: the same refusal; or the same answer with bytes that agree, in each cycle too
-pub data SameCall (m n : CallResult) : Type 0 where
-  turned-back : (r : Refusal) → TurnedBack r (m .answer) → TurnedBack r (n .answer) → SameCall m n
+pub data SameCall (s : List ℕ) (m n : CallResult) : Type 0 where
+  turned-back : (r : Refusal) → TurnedBack r (m .answer) → TurnedBack r (n .answer) → SameCall s m n
   finished :
       Finished (m .answer) → m .answer ≡ n .answer
-      → Agree (m .buffer) (n .buffer) → Forall₂ SameCycle (m .cycles) (n .cycles) → SameCall m n
+      → Agree (m .buffer) (n .buffer) → Forall₂ (SameCycle s) (m .cycles) (n .cycles) → SameCall s m n
 
 -- at every place, each list with its own state: what the two calls give, m and n, and then the states agree again
 pub data SameCalls (s : List ℕ) : List ℕ → List ℕ → List Call → List Call → Type 0 where
   nil : {st st′ : List ℕ} → SameCalls s st st′ [] []
   cons :
       {st st′ : List ℕ} {c d : Call} {cs ds : List Call} {m n : CallResult}
-      → Made s st c m → Made s st′ d n → SameCall m n → Agree (m .state) (n .state)
+      → Made s st c m → Made s st′ d n → SameCall s m n → AgreeStates s (m .state) (n .state)
       → SameCalls s (m .state) (n .state) cs ds
       → SameCalls s st st′ (c ∷ cs) (d ∷ ds)
 
@@ -65,8 +65,8 @@ AllSameDoubled s d st st′ u u′ cs ds =
 -- the two lists on s, and on the doubled image that doubling writes into buf
 pub record DoubledTwoRun (s buf : List ℕ) (cs ds : List Call) : Type 0 where
   pub written : doubleOf s buf .refusal ≡ none
-  -- from any two states that agree: "register j's value and mark then start the doubled registers 2j and 2j + 1, in net order"
-  pub from-states : let d = doubleOf s buf .buffer in (st st′ : List ℕ) → Agree st st′ → AllSameDoubled s d st st′ (split st) (split st′) cs ds
+  -- from any two states that agree, and the doubled netlist's from the values and marks of their registers
+  pub from-states : let d = doubleOf s buf .buffer in (st st′ : List ℕ) → AgreeStates s st st′ → AllSameDoubled s d st st′ (splitState s st) (splitState s st′) cs ds
   -- from its own power-up, of states that held a′ and b′ before
   pub from-power-up :
       let d = doubleOf s buf .buffer in
@@ -80,7 +80,7 @@ pub record TwoRun (s : List ℕ) (cs ds : List Call) : Type 0 where
       (a : List ℕ) → length a ≡ stateLength (sizesOf s)
       → (powerUpOf s a .refusal ≡ none) × (length (powerUpOf s a .state) ≡ stateLength (sizesOf s))
   -- from any two states that agree
-  pub from-states : (st st′ : List ℕ) → Agree st st′ → SameCalls s st st′ cs ds
+  pub from-states : (st st′ : List ℕ) → AgreeStates s st st′ → SameCalls s st st′ cs ds
   -- from power-up, where the two lists' states held the bytes a and b before
   pub from-power-up :
       (a b : List ℕ) → length a ≡ stateLength (sizesOf s) → length b ≡ stateLength (sizesOf s)

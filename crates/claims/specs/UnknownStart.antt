@@ -7,17 +7,18 @@ use mathlib.Core.Option.{none}
 use lib.ListN.{length}
 use Rattle.image.specs.Image.{sizesOf, netsOf}
 use Rattle.checking.specs.Check.{checkRefusal}
-use Rattle.cycle.specs.Calls.{stateLength, powerUpOf, runOf}
+use Rattle.cycle.specs.State.{stateLength}
+use Rattle.cycle.specs.Calls.{powerUpOf, runOf}
 use Rattle.doubled.specs.Doubled.{doubledSize}
 use Rattle.doubling.specs.Doubling.{doubleOf}
 use Rattle.claims.specs.PowerUp.{Wakes}
 use Rattle.claims.specs.History.{Call}
 use Rattle.claims.specs.TwoRun.{Matched, SameCalls, AllSameDoubled}
-use Rattle.claims.specs.InBytes.{fromPowerUp, clearAfter, SameMarks, StaysClear}
+use Rattle.claims.specs.InBytes.{fromPowerUp, clearAfter, SameMarks, SameStates, StaysClear}
 
 pub record UnknownStart (s : List ℕ) : Type 0 where
   -- the states with which an array may wake are those that differ from power-up at most in the values of marked registers
-  pub states : (a st : List ℕ) → length a ≡ stateLength (sizesOf s) → Wakes s st ↔ SameMarks (powerUpOf s a .state) st
+  pub states : (a st : List ℕ) → length a ≡ stateLength (sizesOf s) → Wakes s st ↔ SameStates s (powerUpOf s a .state) st
   -- from any two of them all calls give the same
   pub calls : (st st′ : List ℕ) → Wakes s st → Wakes s st′ → (cs ds : List Call) → Forall₂ Matched cs ds → SameCalls s st st′ cs ds
   -- so a run from power-up that is clear is clear whatever the array woke with, and whatever the values of marked pins

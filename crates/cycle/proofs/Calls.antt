@@ -20,7 +20,7 @@ use Rattle.cycle.specs.Codes.{Low}
 use Rattle.cycle.specs.Cycle.{Rules, plain, bytesOf, clocked, cycleOf, cyclesOf, stateAfter}
 use Rattle.cycle.specs.State.{stateLength, withCount, registersIn}
 use Rattle.cycle.specs.Calls.{refused, start, starts, powerUpRefusal, powerUpOf, asStep, stepRefusal, stepOf, asRun, counting, runRefusal, runOf}
-use Rattle.cycle.proofs.States.{RegistersOf, IsRegisters, IsState, state-none}
+use Rattle.cycle.proofs.States.{RegistersOf, IsRegisters, IsState, counted-state, state-none}
 use Rattle.cycle.proofs.Cycles.{Kept, registers-related, cycle-related, AnyVerdicts, code-kept, registers-length, codes-cycle, low-codes}
 
 -- a refusal is given, or none
@@ -89,6 +89,9 @@ pub record Lent (s st : List ℕ) (n : ℕ) (rows : List ℕ) : Type 0 where
 
 pub lent-ready : {s st : List ℕ} {n : ℕ} {rows : List ℕ} → Lent s st n rows → Ready s (registersIn s st) n rows
 lent-ready l = record { image = l .image; registers = l .state .registers; size = l .size; codes = l .codes }
+
+pub ready-lent : {s rs : List ℕ} {n : ℕ} {rows : List ℕ} → Ready s rs n rows → Lent s (withCount rs) n rows
+ready-lent r = record { image = r .image; state = counted-state (r .registers); size = r .size; codes = r .codes }
 
 pub step-none : (s st row nets : List ℕ) → (stepRefusal s st row nets ≡ none) ↔ (Lent s st (sizesOf s .inputs) row × (length nets ≡ sizesOf s .nets))
 unfolding stepRefusal

@@ -118,6 +118,14 @@ counted-state r = record { registers = rw (registers-back r) r; counted = ap wit
 pub state-size : {s st : List ℕ} → IsState s st → length st ≡ stateLength (sizesOf s)
 state-size {s} {st} a = ap length (a .counted) ∙ state-length (registersIn s st) ∙ ap (λ r. r + 2) (a .registers .size)
 
+-- as its bytes: behind the registers stands their count
+pub right-count : {s st : List ℕ} → IsState s st → drop (sizesOf s .registers) st ≡ u16 (markedCount (registersIn s st))
+right-count {s} {st} a = ap (drop (sizesOf s .registers)) (a .counted) ∙ state-count (registersIn s st) (a .registers .size)
+
+pub counted-is : {s st : List ℕ} → IsRegisters s (registersIn s st) → drop (sizesOf s .registers) st ≡ u16 (markedCount (registersIn s st)) → IsState s st
+unfolding withCount
+counted-is {s} {st} r e = record { registers = r; counted = sym (take-append-drop (sizesOf s .registers) st) ∙ ap (λ l. registersIn s st ++ l) e }
+
 -- with two bytes behind its registers, a list is these and the two
 two-behind : (r : ℕ) (st : List ℕ) → length st ≡ r + 2 → st ≡ take r st ++ (getD st r 0 ∷ getD st (suc r) 0 ∷ [])
 two-behind zero (x ∷ y ∷ []) h = refl
