@@ -8,7 +8,8 @@ use Rattle.refusals.specs.Refusals.{badByte, badLength}
 use Rattle.net_checking.specs.NetCheck.{netRefusal}
 use Rattle.checking.specs.Check.{netsRefusal, checkRefusal}
 use Rattle.cycle.specs.Cycle.{pinByte, netByte, past, walk, bytesOf, verdictFrom, outputsFrom, registers, clocked, cycleOf, cyclesOf, outputsOf, stateAfter, firstOf, firstFlow}
-use Rattle.cycle.specs.Calls.{start, starts, powerUpRefusal, powerUpOf, asStep, stepRefusal, stepOf, asRun, runRefusal, runOf}
+use Rattle.cycle.specs.State.{markedCount, withCount, miscounted}
+use Rattle.cycle.specs.Calls.{start, starts, stateRefusal, powerUpRefusal, powerUpOf, asStep, stepRefusal, stepOf, asRun, counting, runRefusal, runOf}
 use Rattle.claims.specs.Examples.{counted, twoRows, invertedPins, invertedStep, Examples}
 
 -- what is computed with

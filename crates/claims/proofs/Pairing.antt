@@ -10,8 +10,10 @@ use Rattle.image.proofs.Pairs.{pairs-append, pairs-map}
 use Rattle.refusals.specs.declared.answer.Refusal.{Refusal}
 use Rattle.checking.proofs.Checked.{Checked, check-none}
 use Rattle.cycle.specs.Cycle.{Cycle}
-use Rattle.cycle.specs.Calls.{stateLength, powerUpOf, asStep, stepRefusal, runRefusal}
-use Rattle.cycle.proofs.Calls.{step-none, run-none, powered-up}
+use Rattle.cycle.specs.State.{stateLength, withCount, registersIn}
+use Rattle.cycle.specs.Calls.{powerUpOf, asStep, stepRefusal, runRefusal}
+use Rattle.cycle.proofs.States.{IsRegisters, registers-back}
+use Rattle.cycle.proofs.Calls.{Lent, lent-ready, ready-lent, step-none, run-none, starts-registers, powered-up, cycle-registers, run-registers}
 use Rattle.groups.specs.Groups.{split}
 use Rattle.doubled.specs.Doubled.{doubledSize}
 use Rattle.doubling.specs.Doubling.{doubledImage}
@@ -29,38 +31,53 @@ module _ (s : List ℕ) (c : Checked s) (few : doubledSize (netsOf s) ≤ 8192) 
   abbrev d : List ℕ
   d = doubledImage s
 
+  -- a state of the source and one of its doubled image: the registers carry their values and marks, and behind those of the doubled image stands their own count
+  pub record CarriesState (st st′ : List ℕ) : Type 0 where
+    pub registers : List ℕ
+    pub carried : Carries (registersIn s st) registers
+    pub state : st′ ≡ withCount registers
+
+  -- what accepted calls leave
+  carries-counted : {rs rs′ : List ℕ} → IsRegisters s rs → Carries rs rs′ → CarriesState (withCount rs) (withCount rs′)
+  carries-counted {rs′ = rs′} r h = record { registers = rs′; carried = rw (registers-back r) h; state = refl }
+
   -- one accepted call, and the same made again
   record CallAgain (st st′ : List ℕ) (a a′ : Call) : Type 0 where
     finished : Finished (callResult d st′ a′ .answer)
     shows : Forall₂ (Shows s d) (callResult s st a .cycles) (callResult d st′ a′ .cycles)
-    state : Carries (callResult s st a .state) (callResult d st′ a′ .state)
+    state : CarriesState (callResult s st a .state) (callResult d st′ a′ .state)
 
-  call-again : {st st′ : List ℕ} (a a′ : Call) → Carries st st′ → refusalOf s st a ≡ none → Again d a a′ → CallAgain st st′ a a′
+  call-again : {st st′ : List ℕ} (a a′ : Call) → CarriesState st st′ → refusalOf s st a ≡ none → Again d a a′ → CallAgain st st′ a a′
   unfolding refusalOf
   call-again {st} {st′} a a′ t h (step-again {row} {b} {b′} l) =
-      let r = step-none s st row b .0 h .0 in
-      let again = ready-again s c few (sizesOf s .inputs) t r in
-      let g : stepRefusal d st′ (split row) b′ ≡ none = step-none d st′ (split row) b′ .1 (rw (doubled-sizes s) again, l) in
+      let r = lent-ready (step-none s st row b .0 h .0) in
+      let again = ready-again s c few (sizesOf s .inputs) (t .carried) r in
+      let lent : Lent d st′ (2 * sizesOf s .inputs) (split row) = rw (t .state) (ready-lent again) in
+      let g : stepRefusal d st′ (split row) b′ ≡ none = step-none d st′ (split row) b′ .1 (rw (doubled-sizes s) lent, l) in
+      let back : registersIn d st′ ≡ t .registers = rw (t .state) (registers-back (again .registers)) in
       let e = made-step s st row b h in
-      let e′ = made-step d st′ (split row) b′ g in
-      let q = cycle-doubles s c few t r in
+      let e′ = rw back at (made-step d st′ (split row) b′ g) in
+      let q = cycle-doubles s c few (t .carried) r in
       record {
         finished = rw e′ Finished.a-step;
         shows = rw (e, e′) (Forall₂·cons (doubles-show s _ _ q) Forall₂·nil);
-        state = rw (e, e′) (q .state);
+        state = rw (e, e′) (carries-counted (cycle-registers r) (q .state));
       }
   call-again {st} {st′} a a′ t h (run-again {k} {rows} {b} {b′} l) =
-      let r = run-none s st k rows b .0 h in
-      let again = ready-again s c few (k * sizesOf s .inputs) t (r .0) in
+      let n = run-none s st k rows b .0 h in
+      let r = lent-ready (n .0) in
+      let again = ready-again s c few (k * sizesOf s .inputs) (t .carried) r in
       let twice : 2 * (k * sizesOf s .inputs) ≡ k * (2 * sizesOf s .inputs) = omega arith in
-      let g : runRefusal d st′ k (split rows) b′ ≡ none = run-none d st′ k (split rows) b′ .1 (rw (doubled-sizes s) (rw twice at again), r .1, l) in
+      let lent : Lent d st′ (k * (2 * sizesOf s .inputs)) (split rows) = rw (t .state, ← twice) (ready-lent again) in
+      let g : runRefusal d st′ k (split rows) b′ ≡ none = run-none d st′ k (split rows) b′ .1 (rw (doubled-sizes s) lent, n .1, l) in
+      let back : registersIn d st′ ≡ t .registers = rw (t .state) (registers-back (again .registers)) in
       let e = made-run s st k rows b h in
-      let e′ = made-run d st′ k (split rows) b′ g in
-      let q = cycles-double s c few k t (r .0) in
+      let e′ = rw back at (made-run d st′ k (split rows) b′ g) in
+      let q = cycles-double s c few k (t .carried) r in
       record {
         finished = rw e′ Finished.a-run;
         shows = rw (e, e′) (pairs-map asStep (doubles-show s) q);
-        state = rw (e, e′) (state-doubles t q);
+        state = rw (e, e′) (carries-counted (run-registers k r) (state-doubles (t .carried) q));
       }
 
   record CallsAgain (st st′ : List ℕ) (cs cs′ : List Call) : Type 0 where
@@ -68,10 +85,10 @@ module _ (s : List ℕ) (c : Checked s) (few : doubledSize (netsOf s) ≤ 8192) 
     cycles : Forall₂ (Shows s d) (cyclesIn (history s st cs)) (cyclesIn (history d st′ cs′))
 
   abbrev From : List Call → Type 0
-  From cs = (st st′ : List ℕ) (cs′ : List Call) → Carries st st′ → Forall₂ (Again d) (accepted s st cs) cs′ → CallsAgain st st′ cs cs′
+  From cs = (st st′ : List ℕ) (cs′ : List Call) → CarriesState st st′ → Forall₂ (Again d) (accepted s st cs) cs′ → CallsAgain st st′ cs cs′
 
   accepted-first :
-      {st st′ : List ℕ} (a : Call) (cs : List Call) {bs cs′ : List Call} → Carries st st′ → refusalOf s st a ≡ none → From cs
+      {st st′ : List ℕ} (a : Call) (cs : List Call) {bs cs′ : List Call} → CarriesState st st′ → refusalOf s st a ≡ none → From cs
       → bs ≡ accepted s (callResult s st a .state) cs → Forall₂ (Again d) (a ∷ bs) cs′ → CallsAgain st st′ (a ∷ cs) cs′
   unfolding history cyclesIn
   accepted-first a cs t h ih e (Forall₂·cons {b = a′} {l₂ = cs′} p ps) =
@@ -79,7 +96,7 @@ module _ (s : List ℕ) (c : Checked s) (few : doubledSize (netsOf s) ≤ 8192) 
       let rest = ih _ _ cs′ (o .state) (rw e at ps) in
       record { finished = AllFinished.cons (o .finished) (rest .finished); cycles = pairs-append (o .shows) (rest .cycles) }
 
-  first-call : {st st′ : List ℕ} (a : Call) (cs cs′ : List Call) (q : Option Refusal) → refusalOf s st a ≡ q → Carries st st′ → From cs
+  first-call : {st st′ : List ℕ} (a : Call) (cs cs′ : List Call) (q : Option Refusal) → refusalOf s st a ≡ q → CarriesState st st′ → From cs
       → Forall₂ (Again d) (accepted s st (a ∷ cs)) cs′ → CallsAgain st st′ (a ∷ cs) cs′
   first-call {st} a cs cs′ none h t ih p = accepted-first a cs t h ih refl (rw (accepted-none s st a cs h) at p)
   first-call {st} {st′} a cs cs′ (some r) h t ih p =
@@ -96,7 +113,7 @@ module _ (s : List ℕ) (c : Checked s) (few : doubledSize (netsOf s) ≤ 8192) 
   calls-again (a ∷ cs) st st′ cs′ t p = first-call a cs cs′ (refusalOf s st a) refl t (calls-again cs) p
 
   -- from any state, and a state of the doubled image that has its values and marks
-  pub pairs : {st st′ : List ℕ} → Carries st st′ → AllPaired s d st st′
+  pub pairs : {st st′ : List ℕ} → CarriesState st st′ → AllPaired s d st st′
   pairs {st} {st′} t cs cs′ p =
       let r = calls-again cs st st′ cs′ t p in
       record { made = all-made s st cs; made-again = all-made d st′ cs′; finished = r .finished; cycles = r .cycles }
@@ -107,7 +124,7 @@ module _ (s : List ℕ) (c : Checked s) (few : doubledSize (netsOf s) ≤ 8192) 
   powered-pairs a b la lb =
       let e = powered-up s a c la in
       let e′ = powered-up d b (doubled-checked s c few) lb in
-      (rw e, rw e′, rw (e, e′) (pairs (starts-carry s c few)))
+      (rw e, rw e′, rw (e, e′) (pairs (carries-counted (starts-registers c) (starts-carry s c few))))
 
 pub demand2 : Demand2
 demand2 s h few buf l =
@@ -115,6 +132,6 @@ demand2 s h few buf l =
     let e = double-accepted s buf (double-none s buf .1 (c, few, l)) in
     record {
       written = rw e;
-      from-state = rw e (λ st. pairs s c few (split-carries st));
+      from-state = rw e (λ st. pairs s c few (record { registers = split (registersIn s st); carried = split-carries (registersIn s st); state = refl }));
       from-power-up = rw e (powered-pairs s c few);
     }

@@ -4,7 +4,7 @@ use mathlib.Core.Path.{_≡_, refl}
 use mathlib.Core.Option.{none, some}
 use native.Mathlib.Omega.{arith}
 use Rattle.refusals.specs.declared.answer.Refusal.{Refusal}
-use Rattle.cycle.specs.Calls.{done, refused, powerUpRefusal, asStep, stepRefusal, asRun, runRefusal}
+use Rattle.cycle.specs.Calls.{done, refused, powerUpRefusal, asStep, stepRefusal, asRun, counting, runRefusal}
 use Rattle.cycle.proofs.Calls.{either-way, power-up-accepted, power-up-refused, step-accepted, step-refused, run-accepted, run-refused}
 use Rattle.doubling.specs.Doubling.{doubleRefusal}
 use Rattle.doubling.proofs.Checks.{double-accepted, double-refused}

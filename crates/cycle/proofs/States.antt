@@ -7,14 +7,14 @@ use mathlib.Core.Path.{_≡_, refl, sym, ap, ap₂, _∙_}
 use mathlib.Core.List.{List, [], _∷_, _++_, append-nil, Forall₂, Forall₂·nil, Forall₂·cons}
 use mathlib.Core.Bool.{Bool, true, false}
 use mathlib.Core.Option.{none}
-use lib.ListN.{length, getD, take, drop, set, length-append, length-take, length-drop}
+use lib.ListN.{length, getD, take, drop, set, length-append, length-take, length-drop, take-append-drop}
 use lib.Seq.{length-take-le, take-at, drop-at, getD-at, getD-append-add, take-suc, take-suc-set, drop-length, sets, sets-eq}
 use Rattle.gates.specs.Rules.{bit, mark}
 use Rattle.gates.specs.Relations.{AgreeByte, Agree}
 use Rattle.gates.proofs.Laws.{Code, agree-mark}
 use Rattle.image.specs.declared.image.Sizes.{Sizes}
 use Rattle.image.specs.Image.{sizesOf, u16At, u16}
-use Rattle.refusals.specs.Refusals.{badByte, badLength}
+use Rattle.image.proofs.Pairs.{pairs-length}
 use Rattle.refusals.proofs.Refusals.{Codes, accepted}
 use Rattle.cycle.specs.State.{stateLength, markedCount, withCount, registersIn, miscounted, AgreeStates}
 use Rattle.cycle.specs.Calls.{stateRefusal}
@@ -157,9 +157,10 @@ state-none s st = (is, none-applies)
         simp accepted (state-size a, (a .registers .codes, (low, high)))
 
 -- STATES THAT AGREE. Those of register bytes that agree do
-pub counted-agree : {s rs rs′ : List ℕ} {A : ℕ → ℕ → Type 0} → RegistersOf A s rs → RegistersOf A s rs′ → Agree rs rs′ → AgreeStates s (withCount rs) (withCount rs′)
-counted-agree {s} {rs} {rs′} r r′ h =
+pub counted-agree : {s rs rs′ : List ℕ} → length rs ≡ sizesOf s .registers → Agree rs rs′ → AgreeStates s (withCount rs) (withCount rs′)
+counted-agree {s} {rs} {rs′} l h =
+    let l′ = sym (pairs-length h) ∙ l in
     record {
-      registers = rw (registers-back r, registers-back r′) h;
-      counts = state-count rs (r .size) ∙ ap u16 (count-agree h) ∙ sym (state-count rs′ (r′ .size));
+      registers = rw (state-registers rs l, state-registers rs′ l′) h;
+      counts = state-count rs l ∙ ap u16 (count-agree h) ∙ sym (state-count rs′ l′);
     }
