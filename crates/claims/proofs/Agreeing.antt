@@ -1,10 +1,10 @@
 -- Bytes that agree: they agree with themselves, they are codes alike, and they are the bytes that differ at most in the values of marked ones.
-use Prim.Native.Nat.{ℕ, _≤_}
+use Prim.Native.Nat.{ℕ, _+_, _≤_}
 use native.Mathlib.Omega.{arith}
-use mathlib.Core.Path.{refl}
+use mathlib.Core.Path.{_≡_, refl, sym, ap, ap₂, _∙_}
 use mathlib.Core.List.{List}
 use lib.Dec.{lit≤}
-use lib.ListN.{getD}
+use lib.ListN.{length, getD, take, drop, length-append, take-append-drop}
 use Rattle.gates.specs.Relations.{AgreeByte, same, low-high, high-low, Agree}
 use Rattle.gates.proofs.Laws.{Code}
 use Rattle.gates.proofs.Meaning.{agree-means, relations-mean}
@@ -41,7 +41,13 @@ agree-marks a =
       values = λ i l. agree-means (pairs-getD i 0 same a) .1;
     }
 
--- STATES likewise
+-- STATES likewise, which are equally long
+pub parts-length : (n : ℕ) (xs ys : List ℕ) → length (take n xs) ≡ length (take n ys) → drop n xs ≡ drop n ys → length xs ≡ length ys
+parts-length n xs ys h e =
+    ap length (sym (take-append-drop n xs)) ∙ length-append (take n xs) (drop n xs)
+    ∙ ap₂ _+_ h (ap length e)
+    ∙ sym (length-append (take n ys) (drop n ys)) ∙ ap length (take-append-drop n ys)
+
 pub marks-agree-states : {s st : List ℕ} (st′ : List ℕ) → Codes (registersIn s st) → SameStates s st st′ → AgreeStates s st st′
 marks-agree-states {s} st′ c h = record { registers = marks-agree (registersIn s st′) c (h .registers); counts = h .counts }
 

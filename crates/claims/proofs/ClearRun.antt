@@ -16,8 +16,9 @@ use Rattle.image.proofs.Pairs.{pairs-getD}
 use Rattle.image.proofs.Nets.{length-nets}
 use Rattle.checking.proofs.Checked.{check-none}
 use Rattle.cycle.specs.Cycle.{Rules, plain, Verdict, clear, cycleOf, cyclesOf, outputsOf, FirstFlow, firstFlow}
-use Rattle.cycle.specs.Calls.{done, asRun, runOf}
-use Rattle.cycle.proofs.Calls.{Ready, run-none, run-accepted, first-ready, rest-ready}
+use Rattle.cycle.specs.State.{registersIn}
+use Rattle.cycle.specs.Calls.{done, asRun, counting, runOf}
+use Rattle.cycle.proofs.Calls.{Ready, lent-ready, run-none, run-accepted, first-ready, rest-ready}
 use Rattle.claims.specs.NetBytes.{netOf, placeOf}
 use Rattle.claims.specs.Verdicts as judged
 use Rattle.claims.specs.Verdicts.{Judged, First}
@@ -27,7 +28,7 @@ use Rattle.claims.specs.InBytes.{clearAfter, ClearStays}
 use Rattle.claims.proofs.NetBytes.{net-bytes}
 use Rattle.claims.proofs.Verdicts.{verdicts, first-flows}
 use Rattle.claims.proofs.TwoRun.{demand3}
-use Rattle.claims.proofs.Agreeing.{marks-agree, agree-marks}
+use Rattle.claims.proofs.Agreeing.{marks-agree, marks-agree-states, agree-marks-states}
 use Rattle.claims.proofs.Taken.{run-taken}
 use Rattle.claims.proofs.OneCall.{same-one}
 
@@ -63,7 +64,7 @@ module _ (s : List ℕ) (i : ℕ) (l : i < sizesOf s .nets) (out : netOf s i .ki
       → getD (cycleOf plain (netsOf s) row st .outputs ++ rest) (placeOf OUT s i) 0 / 2 % 2 ≡ 0
   first-unmarked row st rest r e =
       let o = cycleOf plain (netsOf s) row st in
-      let b = net-bytes s row st (check-none s .1 (r .image)) (r .size) (r .state .size) .output-byte i l out in
+      let b = net-bytes s row st (check-none s .1 (r .image)) (r .size) (r .registers .size) .output-byte i l out in
       rw (List·getD-append (o .outputs) rest 0 (placeOf OUT s i) (b .below), b .byte)
       (unmarked s (o .bytes) (verdicts gateByte (netsOf s) row st) e i l out protected)
 
@@ -83,7 +84,7 @@ module _ (s : List ℕ) (i : ℕ) (l : i < sizesOf s .nets) (out : netOf s i .ki
   all-unmarked (suc k) rows st r h (suc c) m =
       let o = cycleOf plain (netsOf s) (take (sizesOf s .inputs) rows) st in
       let f = first-ready k r in
-      let n = net-bytes s (take (sizesOf s .inputs) rows) st (check-none s .1 (f .image)) (f .size) (f .state .size) .outputs in
+      let n = net-bytes s (take (sizesOf s .inputs) rows) st (check-none s .1 (f .image)) (f .size) (f .registers .size) .outputs in
       rw (later-place (o .outputs) (outputsOf (cyclesOf plain (netsOf s) (sizesOf s .inputs) k (drop (sizesOf s .inputs) rows) (o .state))) c n)
       (all-unmarked k (drop (sizesOf s .inputs) rows) (o .state) (rest-ready k r) (λ d q. h (suc d) (omega arith)) c (omega arith))
 
@@ -97,16 +98,17 @@ cycles-length rules s (suc k) rows st = ap suc (cycles-length rules s k _ _)
 run-unmarked : (s st : List ℕ) (k : ℕ) (rows outputs : List ℕ) → runOf s st k rows outputs .answer ≡ clearAfter k
     → (c i : ℕ) → c < k → i < sizesOf s .nets → netOf s i .kind ≡ OUT → netOf s i .b ≡ 1
     → getD (runOf s st k rows outputs .outputs) (c * sizesOf s .outputs + placeOf OUT s i) 0 / 2 % 2 ≡ 0
-unfolding asRun
+unfolding asRun counting
 run-unmarked s st k rows outputs h c i m l out protected =
     let t = run-taken s st k rows outputs h in
     let e = run-accepted s st k rows outputs t in
-    let cs = cyclesOf plain (netsOf s) (sizesOf s .inputs) k rows st in
+    let rs = registersIn s st in
+    let cs = cyclesOf plain (netsOf s) (sizesOf s .inputs) k rows rs in
     let f : done (firstFlow 0 cs) ≡ clearAfter k = rw e at h in
     let v : firstFlow 0 cs .verdict ≡ clear = cc in
     let each = clear-each (first-flows cs) v in
-    rw e (all-unmarked s i l out protected k rows st (run-none s st k rows outputs .0 t .0)
-    (λ d q. each d (omega (arith, cycles-length plain s k rows st))) c m)
+    rw e (all-unmarked s i l out protected k rows rs (lent-ready (run-none s st k rows outputs .0 t .0))
+    (λ d q. each d (omega (arith, cycles-length plain s k rows rs))) c m)
 
 pub clear-stays : ClearStays
 unfolding callResult
@@ -115,12 +117,12 @@ clear-stays s st st′ k rows rows′ outputs outputs′ q p l h =
     let matched = Forall₂·cons (Matched.runs {k = k} (marks-agree rows′ (r .codes) p) l) Forall₂·nil in
     let two = demand3 s (check-none s .1 (r .image)) (run k rows outputs ∷ []) (run k rows′ outputs′ ∷ []) matched in
     let ends : Finished (ran (runOf s st k rows outputs .answer)) = rw h Finished.a-run in
-    let t = same-one (two .from-states st st′ (marks-agree st′ (r .state .codes) q)) ends in
+    let t = same-one (two .from-states st st′ (marks-agree-states st′ (r .state .registers .codes) q)) ends in
     let e = t .answer in
     record {
       answer = cc;
       protected = λ d i m n out q.
           let u = run-unmarked s st k rows outputs h d i m n out q in
           (u, unmarked-equal (pairs-getD (d * sizesOf s .outputs + placeOf OUT s i) 0 same (t .buffer)) u);
-      state = agree-marks (t .state);
+      state = agree-marks-states (t .state);
     }

@@ -24,7 +24,7 @@ use Rattle.checking.proofs.Checked.{Checked, check-none}
 use Rattle.cycle.specs.Cycle.{plain, pinByte, cycleOf}
 use Rattle.cycle.proofs.Cycles.{agree-cycle, codes-cycle}
 use Rattle.cycle.proofs.Selections.{Selection, selection-length, place-found, selection-place}
-use Rattle.claims.specs.Accepted.{AcceptedRows, AcceptedState}
+use Rattle.claims.specs.Accepted.{AcceptedRows, AcceptedRegisters}
 use Rattle.claims.specs.NetBytes.{netOf, placeOf, HasByte, const, input, reg, not, and, or, xor, mux, out, NetBytes}
 use Rattle.claims.specs.Ways.{pinsOf, ways}
 use Rattle.claims.specs.Exactness.{byteOf, NoReconvergence, Change, Exactness}
@@ -116,8 +116,8 @@ module _ (s : List ℕ) (a : checkRefusal s ≡ none) where
         ways = ways-step c;
       }
 
-  -- a cycle with a row and a state
-  module _ (row st : List ℕ) (r : AcceptedRows (sizesOf s .inputs) row) (t : AcceptedState s st) where
+  -- a cycle with a row and register bytes
+  module _ (row st : List ℕ) (r : AcceptedRows (sizesOf s .inputs) row) (t : AcceptedRegisters s st) where
     abbrev given : ℕ → ℕ
     given = byteOf s row st
 

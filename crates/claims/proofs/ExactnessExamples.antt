@@ -9,7 +9,7 @@ use borrow.Author.Tests.{eqb-false, eq-eqb}
 use Rattle.gates.specs.Relations.{same, low-high, Agree}
 use Rattle.image.specs.Image.{sizesOf, encode}
 use Rattle.claims.specs.Reading.{netOf}
-use Rattle.claims.specs.Accepted.{AcceptedRows, AcceptedState}
+use Rattle.claims.specs.Accepted.{AcceptedRows, AcceptedRegisters}
 use Rattle.claims.specs.Ways.{pinsOf, waysBelow, ways}
 use Rattle.claims.specs.Exactness.{byteOf, NoReconvergence, Change}
 use Rattle.claims.specs.ExactnessExamples.{ownXor, select, selectTree, delayed, ExactnessExamples}
@@ -76,7 +76,7 @@ register-sources (suc (suc (suc j))) t = no t
 two-inputs : (x y : ℕ) → x ≤ 3 → y ≤ 3 → AcceptedRows 2 (x ∷ y ∷ [])
 two-inputs x y h k = record { size = refl; codes = each (Forall₂·cons h (Forall₂·cons k Forall₂·nil)) }
 
-no-state : (s : List ℕ) → sizesOf s .registers ≡ 0 → AcceptedState s []
+no-state : (s : List ℕ) → sizesOf s .registers ≡ 0 → AcceptedRegisters s []
 no-state s e = record { size = rw e; codes = each Forall₂·nil }
 
 tree-exact : (row : List ℕ) → NoReconvergence selectTree row [] 5

@@ -5,7 +5,7 @@ use mathlib.Core.Path.{_≡_, refl, sym, ap, ap₂, _∙_}
 use mathlib.Core.List.{List, map, Forall₂, Forall₂·nil, Forall₂·cons}
 use mathlib.Core.Option.{Option, none, some}
 use lib.Dec.{ltb}
-use lib.ListN.{length, getD, take, drop, length-append, take-append-drop}
+use lib.ListN.{length, getD}
 use lib.Seq.{getD-drop}
 use Rattle.gates.specs.Relations.{AgreeByte, same, low-high, high-low, Agree}
 use Rattle.gates.proofs.Meaning.{agree-means}
@@ -26,7 +26,7 @@ use Rattle.doubling.proofs.Simulation.{split-length}
 use Rattle.claims.specs.History.{Call, refusalOf, stepped, ran, callResult, history, cyclesIn, Finished}
 use Rattle.claims.specs.Pairing.{shown, Shows, AllPaired}
 use Rattle.claims.specs.TwoRun.{Matched, steps, runs, SameCycle, SameCall, turned-back, finished, SameCalls, SameShown, AllSameDoubled, Demand3}
-use Rattle.claims.proofs.Agreeing.{agree-refl}
+use Rattle.claims.proofs.Agreeing.{agree-refl, parts-length}
 use Rattle.claims.proofs.History.{turns-back, made-refused, made-step, made-run, made}
 use Rattle.claims.proofs.Splitting.{split-value, split-mark}
 use Rattle.claims.proofs.Pairing.{demand2}
@@ -43,14 +43,7 @@ same-byte number i (Forall₂·cons same t) = rw (same-byte number (suc i) t)
 same-byte number i (Forall₂·cons low-high t) = rw (same-byte number (suc i) t)
 same-byte number i (Forall₂·cons high-low t) = rw (same-byte number (suc i) t)
 
--- of states that agree: the same length, and the same count that stands or does not
-states-length : {s : List ℕ} (st st′ : List ℕ) → AgreeStates s st st′ → length st ≡ length st′
-states-length {s} st st′ q =
-    let n = sizesOf s .registers in
-    ap length (sym (take-append-drop n st)) ∙ length-append (take n st) (drop n st)
-    ∙ ap₂ _+_ (pairs-length (q .registers)) (ap length (q .counts))
-    ∙ sym (length-append (take n st′) (drop n st′)) ∙ ap length (take-append-drop n st′)
-
+-- of states that agree: the bytes behind the registers are equal
 same-behind : {s : List ℕ} (st st′ : List ℕ) → AgreeStates s st st′ → (i : ℕ) → getD st (sizesOf s .registers + i) 0 ≡ getD st′ (sizesOf s .registers + i) 0
 same-behind {s} st st′ q i =
     let n = sizesOf s .registers in
@@ -60,7 +53,7 @@ same-state : {s : List ℕ} (st st′ : List ℕ) → AgreeStates s st st′ →
 unfolding stateRefusal miscounted
 same-state {s} st st′ q =
     rw (
-      same-length st st′ 10 (stateLength (sizesOf s)) (states-length st st′ q),
+      same-length st st′ 10 (stateLength (sizesOf s)) (parts-length (sizesOf s .registers) st st′ (pairs-length (q .registers)) (q .counts)),
       same-byte 11 0 (q .registers),
       count-agree (q .registers),
       rw add-zero at (same-behind st st′ q 0),

@@ -6,23 +6,26 @@ use mathlib.Core.List.{List, [], _∷_, Forall₂}
 use mathlib.Core.Option.{none}
 use Rattle.gates.specs.Relations.{Agree}
 use Rattle.image.specs.Image.{netsOf}
+use Rattle.image.proofs.Pairs.{pairs-length}
 use Rattle.checking.specs.Check.{checkRefusal}
 use Rattle.checking.proofs.Checked.{check-none}
+use Rattle.cycle.specs.State.{withCount, registersIn, AgreeStates}
 use Rattle.cycle.specs.Calls.{starts, powerUpOf}
-use Rattle.cycle.proofs.Calls.{either-way, starts-state, powered-up}
+use Rattle.cycle.proofs.States.{state-registers, IsRegisters, registers-back, counted-state, state-size, counted-is, counted-agree}
+use Rattle.cycle.proofs.Calls.{either-way, starts-registers, powered-up}
 use Rattle.doubled.specs.Doubled.{doubledSize}
 use Rattle.doubling.specs.Doubling.{doubledImage}
 use Rattle.doubling.proofs.Checks.{doubled-checked, double-none, double-accepted}
 use Rattle.doubling.proofs.Waking.{joined, joins}
-use Rattle.doubling.proofs.Runs.{Carries, starts-again}
+use Rattle.doubling.proofs.Runs.{starts-again}
 use Rattle.claims.specs.PowerUp.{Wakes}
 use Rattle.claims.specs.History.{Call, refusalOf, accepted}
 use Rattle.claims.specs.TwoRun.{Matched, AllSameDoubled}
 use Rattle.claims.specs.UnknownStart.{UnknownStarts}
 use Rattle.claims.proofs.History.{accepted-none, accepted-some}
-use Rattle.claims.proofs.Pairing.{pairs}
+use Rattle.claims.proofs.Pairing.{CarriesState, pairs}
 use Rattle.claims.proofs.TwoRun.{same-refusal, place, both-doubled, demand3}
-use Rattle.claims.proofs.Agreeing.{agree-refl, codes-agree, agree-marks}
+use Rattle.claims.proofs.Agreeing.{agree-refl, codes-agree, agree-marks-states}
 use Rattle.claims.proofs.ClearRun.{clear-stays}
 use Rattle.claims.proofs.Waking.{wakes-agree, marks-wake, wakes-powered}
 
@@ -30,7 +33,7 @@ use Rattle.claims.proofs.Waking.{wakes-agree, marks-wake, wakes-powered
 record WokenPair (s u : List ℕ) : Type 0 where
   source : List ℕ
   wakes : Wakes s source
-  carries : Carries source u
+  carries : CarriesState s source u
 
 woken-pair : (s u : List ℕ) → checkRefusal s ≡ none → doubledSize (netsOf s) ≤ 8192 → Wakes (doubledImage s) u → WokenPair s u
 woken-pair s u h few w =
@@ -38,13 +41,20 @@ woken-pair s u h few w =
     let d = doubledImage s in
     let cd = doubled-checked s c few in
     let xs = starts (netsOf s) in
-    let up = rw (powered-up d u cd (w .size)) at (wakes-powered d u (check-none d .1 cd) (w .size) w) in
-    let j = joins xs (starts-state c .codes) (rw (starts-again s c few) at up) in
-    let l = starts-state c .size in
+    let rs = registersIn d u in
+    let up : Agree (starts (netsOf d)) rs = rw (registers-back (starts-registers cd)) at (rw (powered-up d u cd (w .size)) at (wakes-powered d u (check-none d .1 cd) (w .size) w) .registers) in
+    let low : IsRegisters d rs = record { size = sym (pairs-length up) ∙ starts-registers cd .size; codes = codes-agree (starts-registers cd .codes) up } in
+    let j = joins xs (starts-registers c .codes) (rw (starts-again s c few) at up) in
+    let l = starts-registers c .size in
+    let full = state-size (counted-state (starts-registers c)) in
     record {
-      source = joined u;
-      wakes = marks-wake s xs h l (joined u) (rw (powered-up s xs c l) (agree-marks (j .agree)));
-      carries = record { values = j .values; codes = λ k. codes-agree (starts-state cd .codes) up };
+      source = withCount (joined rs);
+      wakes = marks-wake s (withCount xs) h full (withCount (joined rs)) (rw (powered-up s (withCount xs) c full) (agree-marks-states (counted-agree l (j .agree))));
+      carries = record {
+        registers = rs;
+        carried = rw (state-registers (joined rs) (sym (pairs-length (j .agree)) ∙ l)) (record { values = j .values; codes = λ k. low .codes });
+        state = counted-is low (w .count) .counted;
+      };
     }
 
 -- states that agree accept the same calls
@@ -52,7 +62,7 @@ matched-itself : (c : Call) → Matched c c
 matched-itself (Call.step row nets) = Matched.steps (agree-refl row) refl
 matched-itself (Call.run k rows outputs) = Matched.runs (agree-refl rows) refl
 
-same-accepted : (s : List ℕ) {st st′ : List ℕ} (cs : List Call) → Agree st st′ → accepted s st cs ≡ accepted s st′ cs
+same-accepted : (s : List ℕ) {st st′ : List ℕ} (cs : List Call) → AgreeStates s st st′ → accepted s st cs ≡ accepted s st′ cs
 same-accepted s [] q = unfold accepted in refl
 same-accepted s {st} {st′} (c ∷ cs) q =
     let e = same-refusal s q (matched-itself c) in
@@ -76,9 +86,9 @@ pub unknown-start : UnknownStarts
 unknown-start s h =
     let c = check-none s .0 h in
     record {
-      states = λ a st l. (λ w. agree-marks (wakes-powered s a h l w), marks-wake s a h l st);
+      states = λ a st l. (λ w. agree-marks-states (wakes-powered s a h l w), marks-wake s a h l st);
       calls = λ st st′ w w′ cs ds m. demand3 s h cs ds m .from-states st st′ (wakes-agree c w w′);
       clear = λ a st k rows rows′ outputs outputs′ l w p m.
-          clear-stays s (powerUpOf s a .state) st k rows rows′ outputs outputs′ (agree-marks (wakes-powered s a h l w)) p m;
+          clear-stays s (powerUpOf s a .state) st k rows rows′ outputs outputs′ (agree-marks-states (wakes-powered s a h l w)) p m;
       doubled = λ few buf l. rw (double-accepted s buf (double-none s buf .1 (c, few, l))) (woken-doubled s h few);
     }

@@ -1,24 +1,29 @@
 -- The states with which an array may wake are those that agree with power-up.
 use Prim.Native.Nat.{ℕ, zero, suc, _/_, _%_, _≤_, _<_}
 use native.Mathlib.Omega.{arith}
-use mathlib.Core.Path.{_≡_, refl, sym, _∙_}
+use mathlib.Core.Path.{_≡_, refl, sym, ap, _∙_}
 use mathlib.Core.List.{List}
 use mathlib.Core.Option.{none}
 use lib.Dec.{lit≤}
 use lib.ListN.{length}
+use lib.Seq.{length-take-le, getD-take}
 use Rattle.gates.specs.Kinds.{REG}
 use Rattle.gates.specs.Relations.{AgreeByte, Agree}
 use Rattle.gates.proofs.Meaning.{relations-mean}
-use Rattle.image.specs.Image.{sizesOf, net, netsOf}
+use Rattle.image.specs.Image.{sizesOf, net, netsOf, u16}
 use Rattle.image.proofs.Nets.{length-nets}
 use Rattle.image.proofs.Pairs.{pairs-places}
 use Rattle.checking.specs.Check.{checkRefusal}
 use Rattle.checking.proofs.Checked.{Checked, check-none}
-use Rattle.cycle.specs.Calls.{stateLength, powerUpOf}
+use Rattle.cycle.specs.State.{stateLength, registersIn, AgreeStates}
+use Rattle.cycle.specs.Calls.{powerUpOf}
+use Rattle.cycle.proofs.States.{count-agree, IsState, counted-state, right-count}
+use Rattle.cycle.proofs.Calls.{starts-registers, powered-up}
 use Rattle.cycle.proofs.Selections.{place-below, place-found}
 use Rattle.claims.specs.NetBytes.{placeOf}
 use Rattle.claims.specs.PowerUp.{WakesWith, unknown-0, unknown-1, Wakes}
-use Rattle.claims.specs.InBytes.{SameMarks}
+use Rattle.claims.specs.InBytes.{SameStates}
+use Rattle.claims.proofs.Agreeing.{marks-agree, parts-length}
 use Rattle.claims.proofs.Accepted.{when-accepted}
 use Rattle.claims.proofs.PowerUp.{power-up-starts}
 
@@ -35,14 +40,22 @@ wake-alike {b} {x} {y} v w =
     let q = wakes-as w in
     relations-mean .agree x y (p .0) (q .0) .1 (p .1 ∙ sym (q .1), λ h. let z = sym (p .1) ∙ h in p .2 z ∙ sym (q .2 z))
 
--- two states
-pub wakes-agree : {s st st′ : List ℕ} → Checked s → Wakes s st → Wakes s st′ → Agree st st′
-wakes-agree {s} {st} {st′} c w w′ =
-    pairs-places st st′ 0 (w .size ∙ sym (w′ .size))
+-- two states: their register bytes agree, and so their counts are equal
+registers-size : {s st : List ℕ} → Wakes s st → length (registersIn s st) ≡ sizesOf s .registers
+registers-size {st = st} w = length-take-le _ st (omega (arith, w .size))
+
+registers-agree : {s st st′ : List ℕ} → Checked s → Wakes s st → Wakes s st′ → Agree (registersIn s st) (registersIn s st′)
+registers-agree {s} {st} {st′} c w w′ =
+    pairs-places (registersIn s st) (registersIn s st′) 0 (registers-size w ∙ sym (registers-size w′))
     (λ p l.
-    let f = place-found REG (netsOf s) (net 0 0 0 0) p (omega (arith, w .size, c .registers)) in
+    let r : p < sizesOf s .registers = omega (arith, registers-size w) in
+    let f = place-found REG (netsOf s) (net 0 0 0 0) p (omega (arith, c .registers)) in
     let below : f .net < sizesOf s .nets = omega (arith, f .below, length-nets s) in
-    rw (f .place) at (wake-alike (w .register (f .net) below (f .kind)) (w′ .register (f .net) below (f .kind))))
+    rw (getD-take _ st p 0 r, getD-take _ st′ p 0 r)
+    (rw (f .place) at (wake-alike (w .register (f .net) below (f .kind)) (w′ .register (f .net) below (f .kind)))))
+
+pub wakes-agree : {s st st′ : List ℕ} → Checked s → Wakes s st → Wakes s st′ → AgreeStates s st st′
+wakes-agree c w w′ = let a = registers-agree c w w′ in record { registers = a; counts = w .count ∙ ap u16 (count-agree a) ∙ sym (w′ .count) }
 
 -- POWER-UP x of a register with start b, and a byte z that differs from it at most in the value of a marked one
 unknown-with : (z : ℕ) → z / 2 ≡ 1 → WakesWith 2 z
@@ -59,25 +72,36 @@ wakes-with (suc (suc zero)) x z l p q r m v = let o = r refl in unknown-with z (
 wakes-with (suc (suc (suc b))) x z l p q r m v = absurd (omega arith)
 
 module _ (s a : List ℕ) (h : checkRefusal s ≡ none) (l : length a ≡ stateLength (sizesOf s)) where
-  pub marks-wake : (st : List ℕ) → SameMarks (powerUpOf s a .state) st → Wakes s st
+  abbrev up : List ℕ
+  up = powerUpOf s a .state
+
+  up-state : IsState s up
+  up-state = let c = check-none s .0 h in rw (powered-up s a c l) (counted-state (starts-registers c))
+
+  pub marks-wake : (st : List ℕ) → SameStates s up st → Wakes s st
   marks-wake st m =
       let t = power-up-starts s a h l in
       let listed = when-accepted .check s .0 h .nets in
+      let same = marks-agree (registersIn s st) (up-state .registers .codes) (m .registers) in
       record {
-        size = sym (m .size) ∙ t .size;
+        size = sym (parts-length (sizesOf s .registers) up st (m .registers .size) (m .counts)) ∙ t .size;
+        count = sym (m .counts) ∙ right-count up-state ∙ ap u16 (count-agree same);
         register = λ i n k.
             let p = placeOf REG s i in
-            let below : p < length (powerUpOf s a .state) = rw (t .size ∙ check-none s .0 h .registers) (place-below REG (netsOf s) i _ (omega (arith, length-nets s)) k) in
+            let below : p < sizesOf s .registers = rw (check-none s .0 h .registers) (place-below REG (netsOf s) i _ (omega (arith, length-nets s)) k) in
+            let there : p < length (registersIn s up) = omega (arith, up-state .registers .size) in
+            let one = getD-take _ up p 0 below in
+            let two = getD-take _ st p 0 below in
             wakes-with _ _ _ (listed i n .values .start k)
             (λ b. t .start-0 i n k b .byte)
             (λ b. t .start-1 i n k b .byte)
             (λ b. t .none-given i n k b .byte)
-            (m .marks p below)
-            (m .values p below);
+            (rw (one, two) at (m .registers .marks p there))
+            (rw (one, two) at (m .registers .values p there));
       }
 
-  powered-wakes : Wakes s (powerUpOf s a .state)
-  powered-wakes = marks-wake _ (record { size = refl; marks = λ i m. refl; values = λ i m o. refl })
+  powered-wakes : Wakes s up
+  powered-wakes = marks-wake _ (record { registers = record { size = refl; marks = λ i m. refl; values = λ i m o. refl }; counts = refl })
 
-  pub wakes-powered : {st : List ℕ} → Wakes s st → Agree (powerUpOf s a .state) st
+  pub wakes-powered : {st : List ℕ} → Wakes s st → AgreeStates s up st
   wakes-powered w = wakes-agree (check-none s .0 h) powered-wakes w

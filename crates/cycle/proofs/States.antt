@@ -7,6 +7,8 @@ use mathlib.Core.Path.{_≡_, refl, sym, ap, ap₂, _∙_}
 use mathlib.Core.List.{List, [], _∷_, _++_, append-nil, Forall₂, Forall₂·nil, Forall₂·cons}
 use mathlib.Core.Bool.{Bool, true, false}
 use mathlib.Core.Option.{none}
+use lib.Dec.{eqb}
+use borrow.Author.Tests.{eqb-true, eqb-false, eq-eqb, ne-eqb}
 use lib.ListN.{length, getD, take, drop, set, length-append, length-take, length-drop, take-append-drop}
 use lib.Seq.{length-take-le, take-at, drop-at, getD-at, getD-append-add, take-suc, take-suc-set, drop-length, sets, sets-eq}
 use Rattle.gates.specs.Rules.{bit, mark}
@@ -15,7 +17,8 @@ use Rattle.gates.proofs.Laws.{Code, agree-mark}
 use Rattle.image.specs.declared.image.Sizes.{Sizes}
 use Rattle.image.specs.Image.{sizesOf, u16At, u16}
 use Rattle.image.proofs.Pairs.{pairs-length}
-use Rattle.refusals.proofs.Refusals.{Codes, accepted}
+use Rattle.refusals.specs.Refusals.{badLength}
+use Rattle.refusals.proofs.Refusals.{Codes, length-none, accepted}
 use Rattle.cycle.specs.State.{stateLength, markedCount, withCount, registersIn, miscounted, AgreeStates}
 use Rattle.cycle.specs.Calls.{stateRefusal}
 
@@ -135,6 +138,11 @@ two-behind zero (x ∷ y ∷ z ∷ zs) h = absurd (omega arith)
 two-behind (suc r) [] h = absurd (omega arith)
 two-behind (suc r) (x ∷ xs) h = ap (λ l. x ∷ l) (two-behind r xs (omega arith))
 
+pub behind-two : (r : ℕ) (st : List ℕ) → length st ≡ r + 2 → drop r st ≡ getD st r 0 ∷ getD st (r + 1) 0 ∷ []
+behind-two r st h =
+    let e = length-take-le r st (omega arith) in
+    rw add-one (ap (drop r) (two-behind r st h) ∙ drop-at (take r st) _ r e)
+
 -- 10, 11 and 20 do not apply exactly if it is one
 pub state-none : (s st : List ℕ) → (stateRefusal (sizesOf s) st ≡ none) ↔ IsState s st
 unfolding stateRefusal miscounted withCount
@@ -155,6 +163,28 @@ state-none s st = (is, none-applies)
         let low = ap (λ l. getD l (sizesOf s .registers) 0) (a .counted) ∙ low-byte rs (a .registers .size) in
         let high = ap (λ l. getD l (sizesOf s .registers + 1) 0) (a .counted) ∙ high-byte rs (a .registers .size) in
         simp accepted (state-size a, (a .registers .codes, (low, high)))
+
+-- of register bytes with their count, only their number is tried
+two-longer : (m n : ℕ) → eqb (m + 2) (n + 2) ≡ eqb m n
+two-longer m n = by (eqb m n) refl
+  where
+    by : (b : Bool) → eqb m n ≡ b → eqb (m + 2) (n + 2) ≡ b
+    by true e = eq-eqb (m + 2) (n + 2) (ap (λ x. x + 2) (eqb-true m n e))
+    by false e = let d = eqb-false m n e in ne-eqb (m + 2) (n + 2) (λ h. d (omega arith))
+
+pub longer-refusal : (number r : ℕ) (xs ys : List ℕ) → length ys ≡ length xs + 2 → badLength number (r + 2) ys ≡ badLength number r xs
+unfolding badLength
+longer-refusal number r xs ys l = rw (l, two-longer (length xs) r)
+
+pub counted-refusal : (s rs : List ℕ) → Codes rs → stateRefusal (sizesOf s) (withCount rs) ≡ badLength 10 (sizesOf s .registers) rs
+unfolding stateRefusal badLength
+counted-refusal s rs c = by (eqb (length rs) (sizesOf s .registers)) refl
+  where
+    by : (b : Bool) → eqb (length rs) (sizesOf s .registers) ≡ b → stateRefusal (sizesOf s) (withCount rs) ≡ badLength 10 (sizesOf s .registers) rs
+    by true e =
+        let l = eqb-true (length rs) (sizesOf s .registers) e in
+        state-none s (withCount rs) .1 (counted-state (record { size = l; codes = c })) ∙ sym (length-none 10 (sizesOf s .registers) rs .1 l)
+    by false e = rw (state-length rs, two-longer (length rs) (sizesOf s .registers), e)
 
 -- STATES THAT AGREE. Those of register bytes that agree do
 pub counted-agree : {s rs rs′ : List ℕ} → length rs ≡ sizesOf s .registers → Agree rs rs′ → AgreeStates s (withCount rs) (withCount rs′)
