@@ -1,11 +1,14 @@
 -- A run of the doubled netlist shows the values and marks of the source's run.
-use Prim.Native.Nat.{ℕ, _+_, _*_, _%_}
+use Prim.Native.Nat.{ℕ, _+_, _*_, _/_, _%_}
 use native.Mathlib.Omega.{arith}
 use mathlib.Core.Path.{_≡_, refl, sym, ap, ap₂, _∙_}
 use mathlib.Core.List.{List, [], _∷_, _++_, map, map-append, append-nil, Forall₂, Forall₂·nil, Forall₂·cons}
 use mathlib.Core.Option.{none}
-use lib.ListN.{length, getD, List·getD-map}
-use Rattle.image.specs.Image.{sizesOf, netsOf}
+use lib.ListN.{length, getD, List·getD-map, take-append-drop}
+use Rattle.gates.specs.Rules.{mark}
+use Rattle.image.specs.Image.{sizesOf, netsOf, u16}
+use Rattle.refusals.proofs.Refusals.{Codes}
+use Rattle.cycle.specs.State.{markedCount, withCount, registersIn}
 use Rattle.checking.proofs.Checked.{check-none}
 use Rattle.cycle.specs.Cycle.{FirstFlow, outputsFrom}
 use Rattle.cycle.specs.Calls.{Answer, done, Stepped, runOf, runRefusal}
@@ -16,8 +19,8 @@ use Rattle.doubling.proofs.Checks.{doubled-sizes, double-none, double-accepted}
 use Rattle.doubling.proofs.Simulation.{split-append}
 use Rattle.claims.specs.Steps.{stepsOf, outputsIn}
 use Rattle.claims.specs.History.{run, ran, CallResult, callResult, refusalOf, accepted, Finished, AllFinished, AllMade}
-use Rattle.claims.specs.Pairing.{Again, run-again, shown, Shows, Paired, AllPaired}
-use Rattle.claims.specs.InBytes.{ShowsInTwo, RunsShow, DoubledShows}
+use Rattle.claims.specs.Pairing.{Again, run-again, splitState, shown, Shows, Paired, AllPaired}
+use Rattle.claims.specs.InBytes.{StateInTwo, ShowsInTwo, RunsShow, DoubledShows}
 use Rattle.claims.proofs.Steps.{run-is-steps}
 use Rattle.claims.proofs.History.{made-run, made-is, accepted-none}
 use Rattle.claims.proofs.Splitting.{split-value, split-mark, in-two}
@@ -96,6 +99,21 @@ runs-show {s} {d} {st} {st′} e again k rows rows′ outputs outputs′ f t l h
     let size : length outputs′ ≡ k * sizesOf d .outputs = rw e (l ∙ ap (λ m. 2 * m) o ∙ sym twice) in
     rw (in-two rows rows′ t) (shows-run s d st st′ k rows outputs outputs′ f (again _ _ (the-run s st d k rows outputs outputs′ r size)) h)
 
+-- a state that stands so: where its source's registers are codes, none of its registers is marked
+split-unmarked : {xs : List ℕ} → Codes xs → markedCount (split xs) ≡ 0
+unfolding split markedCount mark
+split-unmarked Forall₂·nil = refl
+split-unmarked (Forall₂·cons {a = x} h t) =
+    let value : x % 2 / 2 % 2 ≡ 0 = omega arith in
+    let above : x / 2 / 2 % 2 ≡ 0 = omega arith in
+    rw (value, above, split-unmarked t)
+
+state-in-two : {s d st st′ : List ℕ} → Codes (registersIn s st) → StateInTwo s d st st′ → st′ ≡ splitState s st
+unfolding withCount
+state-in-two {s} {d} {st} {st′} c t =
+    sym (take-append-drop (sizesOf d .registers) st′)
+    ∙ ap₂ _++_ (in-two (registersIn s st) (registersIn d st′) (t .registers)) (t .count ∙ ap u16 (sym (split-unmarked c)))
+
 pub doubled-shows : DoubledShows
 doubled-shows s buf w =
     let g = double-taken s buf w in
@@ -105,5 +123,7 @@ doubled-shows s buf w =
     let outputs : sizesOf d .outputs ≡ 2 * sizesOf s .outputs = rw (double-accepted s buf g, doubled-sizes s) in
     record {
       from-power-up = λ a a′ p p′. runs-show outputs (pairs .from-power-up a a′ (powered s a p .1) (powered d a′ p′ .1) .2);
-      from-state = λ st st′ t. rw (in-two st st′ t) (runs-show outputs (pairs .from-state st));
+      from-state = λ st st′ t k rows rows′ os os′ f u l h.
+          let r = run-none s st k rows os .0 (run-taken s st k rows os h) .0 in
+          rw (state-in-two (r .state .registers .codes) t) (runs-show outputs (pairs .from-state st) k rows rows′ os os′ f u l h);
     }

@@ -27,27 +27,27 @@ doubles-show : (s : List ℕ) (c c′ : Cycle) → Doubles s c c′ → Shows s 
 unfolding shown asStep
 doubles-show s c c′ h = record { pairs = h .shows }
 
+-- a state of the source and one of its doubled image: the registers carry their values and marks, and behind those of the doubled image stands their own count
+pub record CarriesState (s st st′ : List ℕ) : Type 0 where
+  pub registers : List ℕ
+  pub carried : Carries (registersIn s st) registers
+  pub state : st′ ≡ withCount registers
+
+-- what accepted calls leave
+carries-counted : {s rs rs′ : List ℕ} → IsRegisters s rs → Carries rs rs′ → CarriesState s (withCount rs) (withCount rs′)
+carries-counted {rs′ = rs′} r h = record { registers = rs′; carried = rw (registers-back r) h; state = refl }
+
 module _ (s : List ℕ) (c : Checked s) (few : doubledSize (netsOf s) ≤ 8192) where
   abbrev d : List ℕ
   d = doubledImage s
-
-  -- a state of the source and one of its doubled image: the registers carry their values and marks, and behind those of the doubled image stands their own count
-  pub record CarriesState (st st′ : List ℕ) : Type 0 where
-    pub registers : List ℕ
-    pub carried : Carries (registersIn s st) registers
-    pub state : st′ ≡ withCount registers
-
-  -- what accepted calls leave
-  carries-counted : {rs rs′ : List ℕ} → IsRegisters s rs → Carries rs rs′ → CarriesState (withCount rs) (withCount rs′)
-  carries-counted {rs′ = rs′} r h = record { registers = rs′; carried = rw (registers-back r) h; state = refl }
 
   -- one accepted call, and the same made again
   record CallAgain (st st′ : List ℕ) (a a′ : Call) : Type 0 where
     finished : Finished (callResult d st′ a′ .answer)
     shows : Forall₂ (Shows s d) (callResult s st a .cycles) (callResult d st′ a′ .cycles)
-    state : CarriesState (callResult s st a .state) (callResult d st′ a′ .state)
+    state : CarriesState s (callResult s st a .state) (callResult d st′ a′ .state)
 
-  call-again : {st st′ : List ℕ} (a a′ : Call) → CarriesState st st′ → refusalOf s st a ≡ none → Again d a a′ → CallAgain st st′ a a′
+  call-again : {st st′ : List ℕ} (a a′ : Call) → CarriesState s st st′ → refusalOf s st a ≡ none → Again d a a′ → CallAgain st st′ a a′
   unfolding refusalOf
   call-again {st} {st′} a a′ t h (step-again {row} {b} {b′} l) =
       let r = lent-ready (step-none s st row b .0 h .0) in
@@ -85,10 +85,10 @@ module _ (s : List ℕ) (c : Checked s) (few : doubledSize (netsOf s) ≤ 8192) 
     cycles : Forall₂ (Shows s d) (cyclesIn (history s st cs)) (cyclesIn (history d st′ cs′))
 
   abbrev From : List Call → Type 0
-  From cs = (st st′ : List ℕ) (cs′ : List Call) → CarriesState st st′ → Forall₂ (Again d) (accepted s st cs) cs′ → CallsAgain st st′ cs cs′
+  From cs = (st st′ : List ℕ) (cs′ : List Call) → CarriesState s st st′ → Forall₂ (Again d) (accepted s st cs) cs′ → CallsAgain st st′ cs cs′
 
   accepted-first :
-      {st st′ : List ℕ} (a : Call) (cs : List Call) {bs cs′ : List Call} → CarriesState st st′ → refusalOf s st a ≡ none → From cs
+      {st st′ : List ℕ} (a : Call) (cs : List Call) {bs cs′ : List Call} → CarriesState s st st′ → refusalOf s st a ≡ none → From cs
       → bs ≡ accepted s (callResult s st a .state) cs → Forall₂ (Again d) (a ∷ bs) cs′ → CallsAgain st st′ (a ∷ cs) cs′
   unfolding history cyclesIn
   accepted-first a cs t h ih e (Forall₂·cons {b = a′} {l₂ = cs′} p ps) =
@@ -96,7 +96,7 @@ module _ (s : List ℕ) (c : Checked s) (few : doubledSize (netsOf s) ≤ 8192) 
       let rest = ih _ _ cs′ (o .state) (rw e at ps) in
       record { finished = AllFinished.cons (o .finished) (rest .finished); cycles = pairs-append (o .shows) (rest .cycles) }
 
-  first-call : {st st′ : List ℕ} (a : Call) (cs cs′ : List Call) (q : Option Refusal) → refusalOf s st a ≡ q → CarriesState st st′ → From cs
+  first-call : {st st′ : List ℕ} (a : Call) (cs cs′ : List Call) (q : Option Refusal) → refusalOf s st a ≡ q → CarriesState s st st′ → From cs
       → Forall₂ (Again d) (accepted s st (a ∷ cs)) cs′ → CallsAgain st st′ (a ∷ cs) cs′
   first-call {st} a cs cs′ none h t ih p = accepted-first a cs t h ih refl (rw (accepted-none s st a cs h) at p)
   first-call {st} {st′} a cs cs′ (some r) h t ih p =
@@ -113,7 +113,7 @@ module _ (s : List ℕ) (c : Checked s) (few : doubledSize (netsOf s) ≤ 8192) 
   calls-again (a ∷ cs) st st′ cs′ t p = first-call a cs cs′ (refusalOf s st a) refl t (calls-again cs) p
 
   -- from any state, and a state of the doubled image that has its values and marks
-  pub pairs : {st st′ : List ℕ} → CarriesState st st′ → AllPaired s d st st′
+  pub pairs : {st st′ : List ℕ} → CarriesState s st st′ → AllPaired s d st st′
   pairs {st} {st′} t cs cs′ p =
       let r = calls-again cs st st′ cs′ t p in
       record { made = all-made s st cs; made-again = all-made d st′ cs′; finished = r .finished; cycles = r .cycles }

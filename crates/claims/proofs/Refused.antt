@@ -2,8 +2,8 @@
 use Prim.Native.Nat.{ℕ, _+_, _*_, _≤_, _<_}
 use native.Mathlib.Omega.{arith}
 use mathlib.Core.Logic.{_↔_, _⊎_, inl, inr, ⊎-elim}
-use mathlib.Core.Path.{_≡_, refl, ap, sym, _∙_}
-use mathlib.Core.List.{List}
+use mathlib.Core.Path.{_≡_, refl, ap, ap₂, sym, _∙_}
+use mathlib.Core.List.{List, [], _∷_}
 use mathlib.Core.Option.{Option, none, some}
 use mathlib.Core.Bool.{Bool, true, false, _||_, not}
 use lib.Dec.{eqb, ltb}
@@ -14,10 +14,13 @@ use Rattle.image.specs.Image.{sizesOf, net, netsOf}
 use Rattle.image.proofs.Nets.{length-nets}
 use Rattle.refusals.specs.declared.answer.Refusal.{Refusal}
 use Rattle.refusals.specs.Refusals.{refusal, refuse, _then_, plainBytes, badByte, badLength}
-use Rattle.refusals.proofs.Refusals.{refuse-none, not-above, not-other, byte-none, length-none, accepted}
+use Rattle.refusals.proofs.Refusals.{refuse-none, neither, not-above, not-other, byte-none, length-none, accepted}
 use Rattle.net_checking.specs.NetCheck.{badPin, badValue, badUnlisted, netRefusal}
 use Rattle.checking.specs.Check.{wrongCounts, netsRefusal, checkRefusal}
-use Rattle.cycle.specs.Calls.{stateLength, refused, lentRefusal, powerUpRefusal, powerUpOf, stepRefusal, stepOf, asStep, runRefusal, runOf, asRun}
+use Rattle.cycle.specs.State as states
+use Rattle.cycle.specs.State.{stateLength, registersIn}
+use Rattle.cycle.proofs.States.{behind-two, state-none}
+use Rattle.cycle.specs.Calls.{refused, stateRefusal, lentRefusal, powerUpRefusal, powerUpOf, stepRefusal, stepOf, asStep, runRefusal, runOf, asRun, counting}
 use Rattle.cycle.proofs.Calls.{power-up-accepted, power-up-refused, step-accepted, step-refused, run-accepted, run-refused}
 use Rattle.doubled.specs.Doubled.{doubledSize}
 use Rattle.figures.specs.Figures.{sizeRefusal, doubledSizeOf}
@@ -30,8 +33,8 @@ use Rattle.page_text.specs.Pages.{pagesLength}
 use Rattle.paging.specs.Paging.{pageRefusal, pageOf}
 use Rattle.paging.proofs.PageCalls.{page-accepted, page-refused}
 use Rattle.static_run.proofs.StaticRefused.{code-none, static-power-up-accepted, static-power-up-refused, static-accepted, static-refused}
-use Rattle.claims.specs.Accepted.{Sized, NoneAbove3, OnlyCodes, AcceptedImage, AcceptedState, AcceptedStaticState, AcceptedRecord}
-use Rattle.claims.specs.Refused.{AnyCall, check, power-up, step, run, static-power-up, static-run, doubled-size, double, page, Gives, BadNet, kind, pin, value, unlisted, BadImage, short, no-nets, many-nets, inexact, bad-net, miscounted, FirstAbove3, BadLent, state-size, state-byte, row-size, row-byte, buffer-size, FirstNoCode, BadStatic, static-state-size, static-state-byte, static-row-size, static-row-byte, static-buffer-size, Refused, bad-image, bad-state, bad-step, many-cycles, bad-run, bad-static-state, many-static-cycles, bad-static-run, size-large, doubled-large, doubled-length, many-page-cycles, record-byte, record-size, page-size, Refusals}
+use Rattle.claims.specs.Accepted.{Sized, NoneAbove3, OnlyCodes, AcceptedImage, RightCount, AcceptedStaticState, AcceptedRecord}
+use Rattle.claims.specs.Refused.{AnyCall, check, power-up, step, run, static-power-up, static-run, doubled-size, double, page, Gives, BadNet, kind, pin, value, unlisted, BadImage, short, no-nets, many-nets, inexact, bad-net, miscounted, FirstAbove3, BadLent, state-size, state-byte, state-count, row-size, row-byte, buffer-size, FirstNoCode, BadStatic, static-state-size, static-state-byte, static-row-size, static-row-byte, static-buffer-size, Refused, bad-image, bad-state, bad-step, many-cycles, bad-run, bad-static-state, many-static-cycles, bad-static-run, size-large, doubled-large, doubled-length, many-page-cycles, record-byte, record-size, page-size, Refusals}
 use Rattle.claims.proofs.InTurn.{InTurn, given-first, first-given}
 use Rattle.claims.proofs.Accepted as accept
 use Rattle.claims.proofs.Unchanged.{not-refused, not-some}
@@ -148,20 +151,37 @@ image-tells s =
     one-then (nets-tell z)
     (λ d. line (wrongCounts s) 8 0 (λ e. miscounted z (accept.nets s .0 d) (λ x. clash e (accept.counts s .1 x)))))))
 
+-- the stored count is the number of marked registers, as the test has it and as bytes
+count-right : (s st : List ℕ) → length st ≡ stateLength (sizesOf s) → (states.miscounted (sizesOf s .registers) st ≡ false) ↔ RightCount s st
+unfolding states.miscounted
+count-right s st l = (
+  λ h. let t = simp (neither, not-other) at h in behind-two (sizesOf s .registers) st l ∙ ap₂ (λ x y. x ∷ y ∷ []) (t .0) (t .1),
+  λ h.
+      let e = sym (behind-two (sizesOf s .registers) st l) ∙ h in
+      simp (neither, not-other) (ap (λ ys. getD ys 0 0) e, ap (λ ys. getD ys 1 0) e),
+)
+
 lent-tells : {s : List ℕ} {rowBytes filled : ℕ} (st rows buffer : List ℕ)
-    → Tells (lentRefusal plainBytes (stateLength (sizesOf s)) rowBytes filled st rows buffer) (BadLent s rowBytes filled st rows buffer)
+    → Tells (stateRefusal (sizesOf s) st then lentRefusal plainBytes rowBytes filled rows buffer) (BadLent s rowBytes filled st rows buffer)
+unfolding stateRefusal
 lent-tells {s} {rowBytes} {filled} st rows buffer =
-    one-then (length-tells 10 (stateLength (sizesOf s)) st state-size)
-    (λ a. let l = length-none _ _ st .0 a in
-    one-then (bytes-tell (ltb 3) 11 st (λ i w. state-byte l (above-3 w)))
-    (λ b. let q : AcceptedState s st = record { size = l; codes = accept.each (byte-none _ _ st .0 b) } in
+    one-then (state-tells)
+    (λ n. let q = accept.state (state-none s st .0 n) in
     one-then (length-tells 12 rowBytes rows (row-size q))
     (λ c. let m = length-none _ _ rows .0 c in
     one-then (bytes-tell (ltb 3) 13 rows (λ i w. row-byte q m (above-3 w)))
-    (λ d. length-tells 14 filled buffer (buffer-size q (record { size = m; codes = accept.each (byte-none _ _ rows .0 d) }))))))
+    (λ d. length-tells 14 filled buffer (buffer-size q (record { size = m; codes = accept.each (byte-none _ _ rows .0 d) })))))
+  where
+    state-tells : Tells (stateRefusal (sizesOf s) st) (BadLent s rowBytes filled st rows buffer)
+    state-tells =
+        one-then (length-tells 10 (stateLength (sizesOf s)) st state-size)
+        (λ a. let l = length-none _ _ st .0 a in
+        one-then (bytes-tell (ltb 3) 11 (registersIn s st) (λ i w. state-byte l (above-3 w)))
+        (λ b. line (states.miscounted (sizesOf s .registers) st) 20 0
+        (λ e. state-count l (accept.each (byte-none _ _ (registersIn s st) .0 b)) (λ r. clash e (count-right s st l .1 r)))))
 
 static-tells : {s : List ℕ} {rowBytes filled : ℕ} (st rows buffer : List ℕ)
-    → Tells (lentRefusal staticBytes (sizesOf s .registers) rowBytes filled st rows buffer) (BadStatic s rowBytes filled st rows buffer)
+    → Tells (badLength 10 (sizesOf s .registers) st then badByte noCode 18 0 st then lentRefusal staticBytes rowBytes filled rows buffer) (BadStatic s rowBytes filled st rows buffer)
 static-tells {s} {rowBytes} {filled} st rows buffer =
     one-then (length-tells 10 (sizesOf s .registers) st static-state-size)
     (λ a. let l = length-none _ _ st .0 a in
@@ -220,22 +240,23 @@ image-drawn {s} (bad-net {i = i} z l before b) =
 image-drawn {s} (miscounted z nets h) = past-sizes z ∙ rw (accept.nets s .1 nets, so (accept.counts s) h)
 
 lent-drawn : {s : List ℕ} {rowBytes filled : ℕ} {st rows buffer : List ℕ} {number place : ℕ} → BadLent s rowBytes filled st rows buffer number place
-    → lentRefusal plainBytes (stateLength (sizesOf s)) rowBytes filled st rows buffer ≡ some (refusal number place)
-lent-drawn {st = st} (state-size h) = rw (length-drawn 10 _ st h)
-lent-drawn {st = st} (state-byte l w) = rw (length-none 10 _ st .1 l, byte-drawn (ltb 3) 11 st (bad-3 w))
-lent-drawn {st = st} {rows} (row-size q h) = rw (length-none 10 _ st .1 (q .size), no-byte 11 st (q .codes), length-drawn 12 _ rows h)
-lent-drawn {st = st} {rows} (row-byte q l w) = rw (length-none 10 _ st .1 (q .size), no-byte 11 st (q .codes), length-none 12 _ rows .1 l, byte-drawn (ltb 3) 13 rows (bad-3 w))
-lent-drawn {st = st} {rows} {buffer} (buffer-size q r h) =
+    → (stateRefusal (sizesOf s) st then lentRefusal plainBytes rowBytes filled rows buffer) ≡ some (refusal number place)
+lent-drawn {st = st} (state-size h) = unfold stateRefusal in rw (length-drawn 10 _ st h)
+lent-drawn {s} {st = st} (state-byte l w) = unfold stateRefusal in rw (length-none 10 _ st .1 l, byte-drawn (ltb 3) 11 (registersIn s st) (bad-3 w))
+lent-drawn {s} {st = st} (state-count l c h) =
+    unfold stateRefusal in rw (length-none 10 _ st .1 l, no-byte 11 (registersIn s st) c, so (count-right s st l) h)
+lent-drawn {s} {st = st} {rows} (row-size q h) = rw (state-none s st .1 (accept.is-state q), length-drawn 12 _ rows h)
+lent-drawn {s} {st = st} {rows} (row-byte q l w) = rw (state-none s st .1 (accept.is-state q), length-none 12 _ rows .1 l, byte-drawn (ltb 3) 13 rows (bad-3 w))
+lent-drawn {s} {st = st} {rows} {buffer} (buffer-size q r h) =
     rw (
-      length-none 10 _ st .1 (q .size),
-      no-byte 11 st (q .codes),
+      state-none s st .1 (accept.is-state q),
       length-none 12 _ rows .1 (r .size),
       no-byte 13 rows (r .codes),
       length-drawn 14 _ buffer h,
     )
 
 static-drawn : {s : List ℕ} {rowBytes filled : ℕ} {st rows buffer : List ℕ} {number place : ℕ} → BadStatic s rowBytes filled st rows buffer number place
-    → lentRefusal staticBytes (sizesOf s .registers) rowBytes filled st rows buffer ≡ some (refusal number place)
+    → (badLength 10 (sizesOf s .registers) st then badByte noCode 18 0 st then lentRefusal staticBytes rowBytes filled rows buffer) ≡ some (refusal number place)
 static-drawn {st = st} (static-state-size h) = rw (length-drawn 10 _ st h)
 static-drawn {st = st} (static-state-byte l w) = rw (length-none 10 _ st .1 l, byte-drawn noCode 18 st (bad-code w))
 static-drawn {st = st} {rows} (static-row-size q h) = rw (length-none 10 _ st .1 (q .size), no-bad-code 18 st (q .codes), length-drawn 12 _ rows h)
@@ -254,12 +275,15 @@ static-drawn {st = st} {rows} {buffer} (static-buffer-size q r h) =
 abbrev behind : (s : List ℕ) → AnyCall → Option Refusal
 behind s check = none
 behind s (power-up st) = badLength 10 (stateLength (sizesOf s)) st
-behind s (step st row nets) = lentRefusal plainBytes (stateLength (sizesOf s)) (sizesOf s .inputs) (sizesOf s .nets) st row nets
+behind s (step st row nets) = stateRefusal (sizesOf s) st then lentRefusal plainBytes (sizesOf s .inputs) (sizesOf s .nets) row nets
 behind s (run st k rows outputs) =
-    refuse (ltb 4096 k) 9 0 then lentRefusal plainBytes (stateLength (sizesOf s)) (k * sizesOf s .inputs) (k * sizesOf s .outputs) st rows outputs
+    refuse (ltb 4096 k) 9 0 then stateRefusal (sizesOf s) st then lentRefusal plainBytes (k * sizesOf s .inputs) (k * sizesOf s .outputs) rows outputs
 behind s (static-power-up st) = badLength 10 (sizesOf s .registers) st
 behind s (static-run st k rows outputs) =
-    refuse (ltb 4096 k) 9 0 then lentRefusal staticBytes (sizesOf s .registers) (k * sizesOf s .inputs) (k * sizesOf s .outputs) st rows outputs
+    refuse (ltb 4096 k) 9 0
+    then badLength 10 (sizesOf s .registers) st
+    then badByte noCode 18 0 st
+    then lentRefusal staticBytes (k * sizesOf s .inputs) (k * sizesOf s .outputs) rows outputs
 behind s doubled-size = refuse (ltb 8192 (doubledSize (netsOf s))) 15 0
 behind s (double buf) = refuse (ltb 8192 (doubledSize (netsOf s))) 15 0 then badLength 16 (8 + 7 * doubledSize (netsOf s)) buf
 behind s (page k outputs buf) =

@@ -15,13 +15,16 @@ use Rattle.unknowns.proofs.Covered.{covers-itself, covers-every, covers-trusted
 use Rattle.image.specs.Image.{sizesOf, netsOf}
 use Rattle.image.proofs.Pairs.{pairs-places, pairs-getD, pairs-length}
 use Rattle.checking.proofs.Checked.{Checked, check-none}
+use Rattle.cycle.specs.State.{withCount}
 use Rattle.cycle.specs.Calls.{start}
+use Rattle.cycle.proofs.States.{state-length}
 use Rattle.cycle.proofs.Cycles.{registers-length}
 use Rattle.cycle.proofs.Selections.{registers-selected}
 use Rattle.static_run.specs.StaticCalls.{staticStart, staticStarts, staticPowerUpOf}
 use Rattle.static_run.proofs.StaticRefused.{static-power-up-none, static-power-up-accepted}
 use Rattle.claims.specs.NetBytes.{netOf, Counted}
-use Rattle.claims.specs.StaticBytes.{FilledBy, ToldBy, StaticClear, StaticPowerUpAll}
+use Rattle.claims.specs.StaticBytes.{FilledBy, ToldBy, ToldState, StaticClear, StaticPowerUpAll}
+use Rattle.claims.specs.StaticRuns.{CoversState}
 use Rattle.claims.proofs.NetBytes.{selected}
 use Rattle.claims.proofs.Accepted.{code}
 use Rattle.claims.proofs.StaticRuns.{static-sound, static-wakes}
@@ -94,15 +97,18 @@ all-covered : {codes bytes : List ℕ} → ToldBy codes bytes → CoversAll code
 all-covered {codes} {bytes} t =
     pairs-places codes bytes 0 (t .size) (λ i l. told-covers (t .codes-are i l) (t .bytes-are i l) (t .values i l) (t .marks i l))
 
+told-state : {codes st : List ℕ} → CoversState codes st → ToldState codes st
+told-state h = record { registers = h .registers; told = told (h .covered); state = h .state }
+
 pub static-clear : StaticClear
 static-clear =
     record {
       run = λ s st st′ k codes rows b b′ p q l h.
-          let sound = static-sound s st st′ k codes rows b b′ (all-covered p) (covered q) l in
+          let sound = static-sound s st st′ k codes rows b b′ (record { registers = p .registers; covered = all-covered (p .told); state = p .state }) (covered q) l in
           let cycles = sound .accepted (static-run-taken s st k codes b h) in
-          record { answer = cycles .clears h; outputs = told (cycles .outputs); state = told (sound .state) };
+          record { answer = cycles .clears h; outputs = told (cycles .outputs); state = told-state (sound .state) };
       fills = λ codes bytes f. told (covered f);
-      wakes = λ s a st h w. let p = static-wakes s a a refl in told (p .wakes (sym (p .refusal) ∙ h) st w);
+      wakes = λ s a st h w. let p = static-wakes s a (withCount a) (state-length a) in told-state (p .wakes (sym (p .refusal) ∙ h) st w);
     }
 
 -- POWER-UP

@@ -1,6 +1,6 @@
 -- The static rule and the plain one keep covering between them, a clear static verdict makes a concrete one clear, and a static call draws what the plain call draws on bytes that
 -- it covers.
-use Prim.Native.Nat.{ℕ, suc, _*_}
+use Prim.Native.Nat.{ℕ, suc, _+_, _*_}
 use native.Mathlib.Omega.{arith}
 use mathlib.Core.Path.{_≡_, refl}
 use mathlib.Core.List.{List, Forall₂·nil, Forall₂·cons}
@@ -14,8 +14,11 @@ use Rattle.unknowns.proofs.Covered.{covers-itself, covers-gate}
 use Rattle.image.specs.Image.{sizesOf}
 use Rattle.image.proofs.Pairs.{pairs-length}
 use Rattle.refusals.specs.Refusals.{badLength, badByte}
+use Rattle.refusals.proofs.Refusals.{byte-none}
+use Rattle.cycle.specs.State.{withCount}
 use Rattle.cycle.specs.Cycle.{plain}
 use Rattle.cycle.specs.Calls.{powerUpRefusal, runRefusal}
+use Rattle.cycle.proofs.States.{longer-refusal, counted-refusal}
 use Rattle.cycle.proofs.Cycles.{Kept, Judged, judged-clear, ClearAfter}
 use Rattle.static_run.specs.StaticCalls.{static, staticPowerUpRefusal, staticRunRefusal}
 
@@ -40,22 +43,22 @@ same-length : (number n : ℕ) (xs ys : List ℕ) → length xs ≡ length ys �
 unfolding badLength
 same-length number n xs ys h = rw h
 
--- so a static call draws what the plain call draws on bytes that it covers
+-- so a static call draws what the plain call draws on bytes that it covers, and on the state of register bytes that it covers
 pub same-refusal :
-    (s : List ℕ) (k : ℕ) {st st′ codes rows : List ℕ} (b b′ : List ℕ) → CoversAll st st′ → CoversAll codes rows → length b ≡ length b′
-    → staticRunRefusal s st k codes b ≡ runRefusal s st′ k rows b′
+    (s : List ℕ) (k : ℕ) {st rs codes rows : List ℕ} (b b′ : List ℕ) → CoversAll st rs → CoversAll codes rows → length b ≡ length b′
+    → staticRunRefusal s st k codes b ≡ runRefusal s (withCount rs) k rows b′
 unfolding staticRunRefusal runRefusal
-same-refusal s k {st} {st′} {codes} {rows} b b′ p q l =
+same-refusal s k {st} {rs} {codes} {rows} b b′ p q l =
     rw (
       no-bad-code 18 0 p,
       no-bad-code 18 0 q,
-      no-bad-plain 11 0 p,
+      counted-refusal s rs (byte-none 11 0 rs .0 (no-bad-plain 11 0 p)),
       no-bad-plain 13 0 q,
-      same-length 10 (sizesOf s .registers) st st′ (pairs-length p),
+      same-length 10 (sizesOf s .registers) st rs (pairs-length p),
       same-length 12 (k * sizesOf s .inputs) codes rows (pairs-length q),
       same-length 14 (k * sizesOf s .outputs) b b′ l,
     )
 
-pub same-power-up : (s : List ℕ) (a a′ : List ℕ) → length a ≡ length a′ → staticPowerUpRefusal s a ≡ powerUpRefusal s a′
+pub same-power-up : (s : List ℕ) (a a′ : List ℕ) → length a′ ≡ length a + 2 → staticPowerUpRefusal s a ≡ powerUpRefusal s a′
 unfolding staticPowerUpRefusal powerUpRefusal
-same-power-up s a a′ l = rw (same-length 10 (sizesOf s .registers) a a′ l)
+same-power-up s a a′ l = rw (longer-refusal 10 (sizesOf s .registers) a a′ l)

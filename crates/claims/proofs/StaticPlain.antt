@@ -21,13 +21,17 @@ use Rattle.image.proofs.Pairs.{pairs-imp, pairs-equal}
 use Rattle.checking.specs.Check.{checkRefusal}
 use Rattle.checking.proofs.Checked.{check-none}
 use Rattle.cycle.specs.Cycle.{plain, Cycle, cyclesOf, registers}
-use Rattle.cycle.specs.Calls.{start, starts}
+use Rattle.cycle.specs.State.{withCount}
+use Rattle.cycle.specs.Calls.{start, starts, counting}
+use Rattle.cycle.proofs.States.{state-registers}
 use Rattle.cycle.proofs.Cycles.{Kept, Judged, judged-alike, Related, cycles-related}
-use Rattle.cycle.proofs.Calls.{either-way, power-up-accepted, power-up-refused, run-accepted, run-refused, run-none}
+use Rattle.cycle.proofs.Calls.{either-way, power-up-accepted, power-up-refused, powered-up, run-accepted, run-refused, run-none}
 use Rattle.static_run.specs.StaticCalls.{static, staticStart, staticStarts, staticPowerUpRefusal, staticRunRefusal}
-use Rattle.static_run.proofs.StaticRefused.{static-power-up-accepted, static-power-up-refused, static-accepted, static-refused}
+use Rattle.static_run.proofs.StaticRefused.{static-power-up-accepted, static-power-up-refused, static-accepted, static-refused, static-none}
 use Rattle.claims.specs.Accepted.{NoneAbove3}
 use Rattle.claims.specs.StaticPlain.{StaticPlain}
+use Rattle.claims.proofs.Unchanged.{not-some}
+use Rattle.claims.proofs.Taken.{powered}
 use Rattle.claims.proofs.StaticCovered.{same-refusal, same-power-up}
 
 -- two bytes are the same, 0 to 3
@@ -87,19 +91,27 @@ same-starts (x ∷ xs) h = one (eqb (x .kind) REG) refl (same-starts xs (λ i. h
 pub static-plain : StaticPlain
 static-plain s =
     record {
-      power-up = λ h st.
-          let same = same-power-up s st st refl in
+      power-up-refusal = λ st st′ l.
+          let same = same-power-up s st st′ l in
           either-way (staticPowerUpRefusal s st)
-          (λ e. rw (static-power-up-accepted s st e, power-up-accepted s st (sym same ∙ e), same-starts (netsOf s) h))
-          (λ r e. rw (static-power-up-refused s st r e, power-up-refused s st r (sym same ∙ e)));
+          (λ e. rw (static-power-up-accepted s st e, power-up-accepted s st′ (sym same ∙ e)))
+          (λ r e. rw (static-power-up-refused s st r e, power-up-refused s st′ r (sym same ∙ e)));
+      power-up = λ h st st′ k k′.
+          let p = powered s st′ k′ in
+          either-way (staticPowerUpRefusal s st)
+          (λ e. rw (static-power-up-accepted s st e, powered-up s st′ (p .0) (p .1), same-starts (netsOf s) h))
+          (λ r e. absurd (not-some (sym (rw (static-power-up-refused s st r e) at k))));
       cycles = cycles-same;
-      run = λ st k rows outputs p q.
-          let same = same-refusal s k outputs outputs (each-covers st q) (each-covers rows p) refl in
-          either-way (staticRunRefusal s st k rows outputs)
+      run = λ rs k rows outputs p q.
+          let st = withCount rs in
+          let same = same-refusal s k outputs outputs (each-covers rs q) (each-covers rows p) refl in
+          either-way (staticRunRefusal s rs k rows outputs)
           (λ e.
           let e′ = sym same ∙ e in
-          rw (static-accepted s st k rows outputs e, run-accepted s st k rows outputs e′, cycles-same (check-none s .1 (run-none s st k rows outputs .0 e′ .0 .image)) k rows st p q))
-          (λ r e. rw (static-refused s st k rows outputs r e, run-refused s st k rows outputs r (sym same ∙ e)));
+          let back = state-registers rs (static-none s rs k rows outputs .0 e .0 .registers .size) in
+          run-accepted s st k rows outputs e′
+          ∙ rw (static-accepted s rs k rows outputs e, back, cycles-same (check-none s .1 (run-none s st k rows outputs .0 e′ .0 .image)) k rows rs p q))
+          (λ r e. run-refused s st k rows outputs r (sym same ∙ e) ∙ unfold counting in rw (static-refused s rs k rows outputs r e));
     }
   where
     cycles-same : checkRefusal s ≡ none → (k : ℕ) (rows st : List ℕ) → NoneAbove3 rows → NoneAbove3 st

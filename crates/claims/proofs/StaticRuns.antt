@@ -13,18 +13,21 @@ use Rattle.gates.specs.Relations.{AgreeByte, same, low-high, high-low, Agree}
 use Rattle.unknowns.specs.Covering.{Covers, CoversAll}
 use Rattle.unknowns.proofs.Covered.{covers-itself, covers-every}
 use Rattle.image.specs.Image.{sizesOf, netsOf}
-use Rattle.image.proofs.Pairs.{pairs-imp}
+use Rattle.image.proofs.Pairs.{pairs-imp, pairs-length}
 use Rattle.checking.proofs.Checked.{Checked, check-none}
 use Rattle.refusals.specs.declared.answer.Refusal.{Refusal}
 use Rattle.cycle.specs.Cycle.{plain, Cycle, cyclesOf, FirstFlow}
-use Rattle.cycle.specs.Calls.{done, start, starts, asRun, runRefusal, runOf}
+use Rattle.cycle.specs.State.{withCount, registersIn}
+use Rattle.cycle.specs.Calls.{done, start, starts, asRun, counting, runRefusal, runOf}
+use Rattle.cycle.proofs.States.{state-length, state-registers, IsRegisters, registers-back, counted-is}
 use Rattle.cycle.proofs.Cycles.{Related, ClearAfter, registers-related, cycles-related, outputs-of-related, state-after-related, first-clear}
-use Rattle.cycle.proofs.Calls.{either-way, power-up-accepted, power-up-refused, power-up-none, powered-up, run-accepted, run-refused, run-none, start-code}
+use Rattle.cycle.proofs.Calls.{either-way, power-up-accepted, power-up-refused, power-up-none, powered-up, run-accepted, run-refused, run-none, start-code, starts-registers}
 use Rattle.static_run.specs.StaticCalls.{static, staticStart, staticStarts, staticPowerUpRefusal, staticRunRefusal, staticRunOf}
-use Rattle.static_run.proofs.StaticRefused.{static-power-up-accepted, static-power-up-refused, static-accepted, static-refused}
+use Rattle.static_run.proofs.StaticRefused.{static-power-up-accepted, static-power-up-refused, static-accepted, static-refused, static-none}
 use Rattle.claims.specs.PowerUp.{Wakes}
-use Rattle.claims.specs.StaticRuns.{CoversCycle, SoundCycles, SoundRun, StaticSound, StaticWakes, RunPair, AllCovered, no-more, one-more, SoundRuns, nil, cons, StaticRuns}
+use Rattle.claims.specs.StaticRuns.{CoversCycle, CoversState, SoundCycles, SoundRun, StaticSound, StaticWakes, RunPair, AllCovered, no-more, one-more, SoundRuns, nil, cons, StaticRuns}
 use Rattle.claims.proofs.StaticCovered.{covers-kept, covers-judged, same-refusal, same-power-up}
+use Rattle.claims.proofs.Agreeing.{codes-agree}
 use Rattle.claims.proofs.Waking.{wakes-powered}
 
 -- a cycle as the claim has it
@@ -34,8 +37,12 @@ covers-cycle c d h = record { nets = h .bytes; verdict = h .verdict; outputs = h
 done-is : {f g : FirstFlow} → done f ≡ done g → f ≡ g
 done-is h = cc
 
-module _ (s : List ℕ) {st st′ : List ℕ} (k : ℕ) {codes rows : List ℕ} (b b′ : List ℕ)
-    (p : CoversAll st st′) (q : CoversAll codes rows) (l : length b ≡ length b′) where
+-- a static run from st, and a concrete one from the state of register bytes rs that st covers
+module _ (s : List ℕ) {st rs : List ℕ} (k : ℕ) {codes rows : List ℕ} (b b′ : List ℕ)
+    (p : CoversAll st rs) (q : CoversAll codes rows) (l : length b ≡ length b′) where
+  abbrev st′ : List ℕ
+  st′ = withCount rs
+
   both-refuse : staticRunRefusal s st k codes b ≡ runRefusal s st′ k rows b′
   both-refuse = same-refusal s k b b′ p q l
 
@@ -44,11 +51,14 @@ module _ (s : List ℕ) {st st′ : List ℕ} (k : ℕ) {codes rows : List ℕ} 
     h′ : runRefusal s st′ k rows b′ ≡ none
     h′ = sym both-refuse ∙ h
 
-    covered : Forall₂ (Related Covers ClearAfter) (cyclesOf static (netsOf s) (sizesOf s .inputs) k codes st) (cyclesOf plain (netsOf s) (sizesOf s .inputs) k rows st′)
-    covered = cycles-related static plain covers-kept covers-judged (run-none s st′ k rows b′ .0 h′ .0 .image .nets) (sizesOf s .inputs) k q p
+    back : registersIn s st′ ≡ rs
+    back = state-registers rs (sym (pairs-length p) ∙ static-none s st k codes b .0 h .0 .registers .size)
+
+    covered : Forall₂ (Related Covers ClearAfter) (cyclesOf static (netsOf s) (sizesOf s .inputs) k codes st) (cyclesOf plain (netsOf s) (sizesOf s .inputs) k rows (registersIn s st′))
+    covered = cycles-related static plain covers-kept covers-judged (run-none s st′ k rows b′ .0 h′ .0 .image .nets) (sizesOf s .inputs) k q (rw back p)
 
     sound-cycles : SoundCycles s st st′ k codes rows b b′
-    unfolding asRun
+    unfolding asRun counting
     sound-cycles =
         record {
           cycles = pairs-imp covers-cycle covered;
@@ -58,18 +68,20 @@ module _ (s : List ℕ) {st st′ : List ℕ} (k : ℕ) {codes rows : List ℕ} 
               (ap done (first-clear 0 n covered (done-is (rw (static-accepted s st k codes b h) at e))));
         }
 
-    state-accepted : CoversAll (staticRunOf s st k codes b .state) (runOf s st′ k rows b′ .state)
-    unfolding asRun
-    state-accepted = rw (static-accepted s st k codes b h, run-accepted s st′ k rows b′ h′) (state-after-related p covered)
+    state-accepted : CoversState (staticRunOf s st k codes b .state) (runOf s st′ k rows b′ .state)
+    unfolding asRun counting
+    state-accepted =
+        rw (static-accepted s st k codes b h, run-accepted s st′ k rows b′ h′)
+        (record { registers = _; covered = state-after-related (rw back p) covered; state = refl })
 
-  state-refused : (r : Refusal) → staticRunRefusal s st k codes b ≡ some r → CoversAll (staticRunOf s st k codes b .state) (runOf s st′ k rows b′ .state)
-  state-refused r h = rw (static-refused s st k codes b r h, run-refused s st′ k rows b′ r (sym both-refuse ∙ h)) p
+  state-refused : (r : Refusal) → staticRunRefusal s st k codes b ≡ some r → CoversState (staticRunOf s st k codes b .state) (runOf s st′ k rows b′ .state)
+  state-refused r h = rw (static-refused s st k codes b r h, run-refused s st′ k rows b′ r (sym both-refuse ∙ h)) (record { registers = rs; covered = p; state = refl })
 
   sound-run : SoundRun s st st′ k codes rows b b′
   sound-run = record { refusal = both-refuse; accepted = sound-cycles; state = either-way (staticRunRefusal s st k codes b) state-accepted state-refused }
 
 pub static-sound : StaticSound
-static-sound s st st′ k codes rows b b′ p q l = sound-run s k b b′ p q l
+static-sound s st st′ k codes rows b b′ p q l = rw (p .state) (sound-run s k b b′ (p .covered) q l)
 
 -- POWER-UP
 covers-start : (b : ℕ) → Covers (staticStart b) (start b)
@@ -115,11 +127,18 @@ each-covers : {cs xs ys : List ℕ} → Forall₂ Wakened cs xs → Agree xs ys 
 each-covers Forall₂·nil Forall₂·nil = Forall₂·nil
 each-covers (Forall₂·cons w ws) (Forall₂·cons h hs) = Forall₂·cons (covers-agreeing w h) (each-covers ws hs)
 
-covers-woken : {s : List ℕ} → Checked s → {st : List ℕ} → Wakes s st → CoversAll (staticStarts (netsOf s)) st
+covers-woken : {s : List ℕ} → Checked s → {st : List ℕ} → Wakes s st → CoversState (staticStarts (netsOf s)) st
 unfolding staticStarts starts
 covers-woken {s} c {st} w =
-    let up = rw (powered-up s st c (w .size)) at (wakes-powered s st (check-none s .1 c) (w .size) w) in
-    each-covers (registers-related Wakened (λ x. wakened (x .b)) (netsOf s)) up
+    let begun = starts-registers c in
+    let up : Agree (starts (netsOf s)) (registersIn s st) =
+        rw (registers-back begun) at (rw (powered-up s st c (w .size)) at (wakes-powered s st (check-none s .1 c) (w .size) w) .registers) in
+    let low : IsRegisters s (registersIn s st) = record { size = sym (pairs-length up) ∙ begun .size; codes = codes-agree (begun .codes) up } in
+    record {
+      registers = registersIn s st;
+      covered = each-covers (registers-related Wakened (λ x. wakened (x .b)) (netsOf s)) up;
+      state = counted-is low (w .count) .counted;
+    }
 
 pub static-wakes : StaticWakes
 static-wakes s a a′ l =
@@ -129,21 +148,21 @@ static-wakes s a a′ l =
     let p = static-power-up-accepted s a h in
     let q = power-up-accepted s a′ (sym e ∙ h) in
     let c = power-up-none s a′ .0 (sym e ∙ h) .0 in
-    record { refusal = rw (p, q); state = λ k. rw (p, q) (covers-starts s); wakes = λ k st w. rw p (covers-woken c w) })
+    record { refusal = rw (p, q); state = λ k. rw (p, q) (record { registers = starts (netsOf s); covered = covers-starts s; state = refl }); wakes = λ k st w. rw p (covers-woken c w) })
     (λ r h.
     let p = static-power-up-refused s a r h in
     let q = power-up-refused s a′ r (sym e ∙ h) in
     record { refusal = rw (p, q); state = λ k. not-some (rw q at k); wakes = λ k st w. not-some (rw q at k) })
 
 -- LISTS OF RUNS
-all-sound : (s : List ℕ) {st st′ : List ℕ} {rs : List RunPair} → CoversAll st st′ → AllCovered rs → SoundRuns s st st′ rs
+all-sound : (s : List ℕ) {st st′ : List ℕ} {rs : List RunPair} → CoversState st st′ → AllCovered rs → SoundRuns s st st′ rs
 all-sound s p no-more = nil
-all-sound s p (one-more {r} q l more) = let h = sound-run s (r .k) (r .outputs) (r .outputs′) p q l in cons h (all-sound s (h .state) more)
+all-sound s p (one-more {r} q l more) = let h = static-sound s _ _ (r .k) _ _ (r .outputs) (r .outputs′) p q l in cons h (all-sound s (h .state) more)
 
 pub static-runs : StaticRuns
 static-runs s rs all =
     record {
       covered = λ st st′ p. all-sound s p all;
       from-power-up = λ a a′ l h. all-sound s (static-wakes s a a′ l .state h) all;
-      from-wakes = λ a st h w. all-sound s (static-wakes s a a refl .wakes h st w) all;
+      from-wakes = λ a st h w. let p = static-wakes s a (withCount a) (state-length a) in all-sound s (p .wakes (sym (p .refusal) ∙ h) st w) all;
     }

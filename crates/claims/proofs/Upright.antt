@@ -15,7 +15,8 @@ use Rattle.refusals.specs.Refusals.{refuse, _then_, plainBytes, badLength}
 use Rattle.refusals.proofs.Refusals.{then-none, refuse-none, not-above, accepted}
 use Rattle.checking.specs.Check.{checkRefusal}
 use Rattle.checking.proofs.Checked.{Checked, check-none}
-use Rattle.cycle.specs.Calls.{stateLength, powerUpRefusal, powerUpOf, lentRefusal, asStep, stepRefusal, stepOf, asRun, runRefusal, runOf}
+use Rattle.cycle.specs.State.{stateLength, registersIn}
+use Rattle.cycle.specs.Calls.{powerUpRefusal, powerUpOf, stateRefusal, lentRefusal, asStep, stepRefusal, stepOf, asRun, counting, runRefusal, runOf}
 use Rattle.cycle.proofs.Calls.{either-way, power-up-accepted, power-up-refused, step-accepted, step-refused, step-none, run-accepted, run-refused, run-none}
 use Rattle.doubled.specs.Doubled.{doubledSize, doubledNets}
 use Rattle.figures.specs.Figures.{sizeRefusal, doubledSizeOf}
@@ -50,7 +51,7 @@ module _ (s : List ℕ) (u : AllUpright s) where
 
   module _ (st row nets : List ℕ) where
     step-chain : {o : Option Refusal} → stepRefusal s st row nets ≡ o
-        → (plainCheck s then lentRefusal plainBytes (stateLength (sizesOf s)) (sizesOf s .inputs) (sizesOf s .nets) st row nets) ≡ o
+        → (plainCheck s then stateRefusal (sizesOf s) st then lentRefusal plainBytes (sizesOf s .inputs) (sizesOf s .nets) row nets) ≡ o
     unfolding stepRefusal
     step-chain h = rw same at h
 
@@ -60,13 +61,13 @@ module _ (s : List ℕ) (u : AllUpright s) where
         either-way (stepRefusal s st row nets)
         (λ h.
         step-accepted s st row nets h
-        ∙ ap asStep (cycle-plain (nets-of (step-none s st row nets .0 h .0 .image)) row st)
+        ∙ ap asStep (cycle-plain (nets-of (step-none s st row nets .0 h .0 .image)) row (registersIn s st))
         ∙ sym (rw (step-chain h, plainStep)))
         (λ r h. step-refused s st row nets r h ∙ sym (rw (step-chain h, plainStep)))
 
   module _ (st : List ℕ) (k : ℕ) (rows outputs : List ℕ) where
     run-chain : {o : Option Refusal} → runRefusal s st k rows outputs ≡ o
-        → (plainCheck s then refuse (ltb 4096 k) 9 0 then lentRefusal plainBytes (stateLength (sizesOf s)) (k * sizesOf s .inputs) (k * sizesOf s .outputs) st rows outputs) ≡ o
+        → (plainCheck s then refuse (ltb 4096 k) 9 0 then stateRefusal (sizesOf s) st then lentRefusal plainBytes (k * sizesOf s .inputs) (k * sizesOf s .outputs) rows outputs) ≡ o
     unfolding runRefusal
     run-chain h = rw same at h
 
@@ -76,7 +77,7 @@ module _ (s : List ℕ) (u : AllUpright s) where
         either-way (runRefusal s st k rows outputs)
         (λ h.
         run-accepted s st k rows outputs h
-        ∙ ap (asRun st) (cycles-plain (nets-of (run-none s st k rows outputs .0 h .0 .image)) (sizesOf s .inputs) k rows st)
+        ∙ ap (λ cs. counting (asRun (registersIn s st) cs)) (cycles-plain (nets-of (run-none s st k rows outputs .0 h .0 .image)) (sizesOf s .inputs) k rows (registersIn s st))
         ∙ sym (rw (run-chain h, plainRun)))
         (λ r h. run-refused s st k rows outputs r h ∙ sym (rw (run-chain h, plainRun)))
 

@@ -76,7 +76,7 @@ module _ (s a : List ℕ) (h : checkRefusal s ≡ none) (l : length a ≡ stateL
   up = powerUpOf s a .state
 
   up-state : IsState s up
-  up-state = let c = check-none s .0 h in rw (powered-up s a c l) (counted-state (starts-registers c))
+  up-state = let c = check-none s .0 h in let z : IsState s (powerUpOf s a .state) = rw (powered-up s a c l) (counted-state (starts-registers c)) in z
 
   pub marks-wake : (st : List ℕ) → SameStates s up st → Wakes s st
   marks-wake st m =
