@@ -13,6 +13,7 @@ pub mod PowerUp
 pub mod Verdicts
 pub mod Steps
 pub mod History
+pub mod CountKept
 pub mod DoubledImage
 pub mod Figures
 pub mod Bound

@@ -14,6 +14,7 @@ use Rattle.claims.proofs.PowerUp
 use Rattle.claims.proofs.Verdicts
 use Rattle.claims.proofs.Steps
 use Rattle.claims.proofs.History
+use Rattle.claims.proofs.CountKept
 use Rattle.claims.proofs.DoubledImage
 use Rattle.claims.proofs.Figures
 use Rattle.claims.proofs.Bound
@@ -62,6 +63,7 @@ promised =
       step-is-cycle = Steps.step-is-cycle;
       run-is-steps = Steps.run-is-steps;
       histories = History.histories;
+      count-kept = CountKept.count-kept;
       demand2 = Pairing.demand2;
       doubled-checks = DoubledImage.doubled-checks;
       doubling-writes = DoubledImage.doubling-writes;

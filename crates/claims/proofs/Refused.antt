@@ -351,7 +351,7 @@ by-chain none a give n s i = (λ e. absurd (n refl e), λ h. absurd (not-some h)
 by-chain (some q) a give n s i = (λ e. ap some (i q (sym (s q refl) ∙ e)), λ h. s q refl ∙ ap give (same h))
 
 gives : (s : List ℕ) (c : AnyCall) (r : Refusal) → Gives s c r ↔ (checkRefusal s then behind s c ≡ some r)
-unfolding powerUpRefusal stepRefusal asStep runRefusal asRun staticPowerUpRefusal staticRunRefusal sizeRefusal doubleRefusal pageRefusal
+unfolding powerUpRefusal stepRefusal asStep runRefusal asRun counting staticPowerUpRefusal staticRunRefusal sizeRefusal doubleRefusal pageRefusal
 gives s check r = one (checkRefusal s)
   where
     one : (o : Option Refusal) → (o ≡ some r) ↔ (o then none ≡ some r)

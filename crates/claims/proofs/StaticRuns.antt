@@ -14,21 +14,20 @@ use Rattle.unknowns.specs.Covering.{Covers, CoversAll}
 use Rattle.unknowns.proofs.Covered.{covers-itself, covers-every}
 use Rattle.image.specs.Image.{sizesOf, netsOf}
 use Rattle.image.proofs.Pairs.{pairs-imp, pairs-length}
-use Rattle.checking.proofs.Checked.{Checked, check-none}
+use Rattle.checking.proofs.Checked.{Checked}
 use Rattle.refusals.specs.declared.answer.Refusal.{Refusal}
 use Rattle.cycle.specs.Cycle.{plain, Cycle, cyclesOf, FirstFlow}
 use Rattle.cycle.specs.State.{withCount, registersIn}
 use Rattle.cycle.specs.Calls.{done, start, starts, asRun, counting, runRefusal, runOf}
-use Rattle.cycle.proofs.States.{state-length, state-registers, IsRegisters, registers-back, counted-is}
+use Rattle.cycle.proofs.States.{state-length, state-registers}
 use Rattle.cycle.proofs.Cycles.{Related, ClearAfter, registers-related, cycles-related, outputs-of-related, state-after-related, first-clear}
-use Rattle.cycle.proofs.Calls.{either-way, power-up-accepted, power-up-refused, power-up-none, powered-up, run-accepted, run-refused, run-none, start-code, starts-registers}
+use Rattle.cycle.proofs.Calls.{either-way, power-up-accepted, power-up-refused, power-up-none, run-accepted, run-refused, run-none, start-code}
 use Rattle.static_run.specs.StaticCalls.{static, staticStart, staticStarts, staticPowerUpRefusal, staticRunRefusal, staticRunOf}
 use Rattle.static_run.proofs.StaticRefused.{static-power-up-accepted, static-power-up-refused, static-accepted, static-refused, static-none}
 use Rattle.claims.specs.PowerUp.{Wakes}
 use Rattle.claims.specs.StaticRuns.{CoversCycle, CoversState, SoundCycles, SoundRun, StaticSound, StaticWakes, RunPair, AllCovered, no-more, one-more, SoundRuns, nil, cons, StaticRuns}
 use Rattle.claims.proofs.StaticCovered.{covers-kept, covers-judged, same-refusal, same-power-up}
-use Rattle.claims.proofs.Agreeing.{codes-agree}
-use Rattle.claims.proofs.Waking.{wakes-powered}
+use Rattle.claims.proofs.Waking.{starts-agree, woken-state}
 
 -- a cycle as the claim has it
 covers-cycle : (c d : Cycle) → Related Covers ClearAfter c d → CoversCycle c d
@@ -72,7 +71,7 @@ module _ (s : List ℕ) {st rs : List ℕ} (k : ℕ) {codes rows : List ℕ} (b 
     unfolding asRun counting
     state-accepted =
         rw (static-accepted s st k codes b h, run-accepted s st′ k rows b′ h′)
-        (record { registers = _; covered = state-after-related (rw back p) covered; state = refl })
+        (let begins : CoversAll st (registersIn s st′) = rw back p in record { registers = _; covered = state-after-related begins covered; state = refl })
 
   state-refused : (r : Refusal) → staticRunRefusal s st k codes b ≡ some r → CoversState (staticRunOf s st k codes b .state) (runOf s st′ k rows b′ .state)
   state-refused r h = rw (static-refused s st k codes b r h, run-refused s st′ k rows b′ r (sym both-refuse ∙ h)) (record { registers = rs; covered = p; state = refl })
@@ -130,14 +129,10 @@ each-covers (Forall₂·cons w ws) (Forall₂·cons h hs) = Forall₂·cons (cov
 covers-woken : {s : List ℕ} → Checked s → {st : List ℕ} → Wakes s st → CoversState (staticStarts (netsOf s)) st
 unfolding staticStarts starts
 covers-woken {s} c {st} w =
-    let begun = starts-registers c in
-    let up : Agree (starts (netsOf s)) (registersIn s st) =
-        rw (registers-back begun) at (rw (powered-up s st c (w .size)) at (wakes-powered s st (check-none s .1 c) (w .size) w) .registers) in
-    let low : IsRegisters s (registersIn s st) = record { size = sym (pairs-length up) ∙ begun .size; codes = codes-agree (begun .codes) up } in
     record {
       registers = registersIn s st;
-      covered = each-covers (registers-related Wakened (λ x. wakened (x .b)) (netsOf s)) up;
-      state = counted-is low (w .count) .counted;
+      covered = each-covers (registers-related Wakened (λ x. wakened (x .b)) (netsOf s)) (starts-agree c w);
+      state = woken-state c w .counted;
     }
 
 pub static-wakes : StaticWakes

@@ -4,14 +4,13 @@ use Prim.Native.Nat.{ℕ, _≤_}
 use mathlib.Core.Path.{_≡_, refl, sym, ap, _∙_}
 use mathlib.Core.List.{List, [], _∷_, Forall₂}
 use mathlib.Core.Option.{none}
-use Rattle.gates.specs.Relations.{Agree}
 use Rattle.image.specs.Image.{netsOf}
 use Rattle.image.proofs.Pairs.{pairs-length}
 use Rattle.checking.specs.Check.{checkRefusal}
 use Rattle.checking.proofs.Checked.{check-none}
 use Rattle.cycle.specs.State.{withCount, registersIn, AgreeStates}
 use Rattle.cycle.specs.Calls.{starts, powerUpOf}
-use Rattle.cycle.proofs.States.{state-registers, IsRegisters, registers-back, counted-state, state-size, counted-is, counted-agree}
+use Rattle.cycle.proofs.States.{state-registers, counted-state, state-size, counted-agree}
 use Rattle.cycle.proofs.Calls.{either-way, starts-registers, powered-up}
 use Rattle.doubled.specs.Doubled.{doubledSize}
 use Rattle.doubling.specs.Doubling.{doubledImage}
@@ -25,9 +24,9 @@ use Rattle.claims.specs.UnknownStart.{UnknownStarts}
 use Rattle.claims.proofs.History.{accepted-none, accepted-some}
 use Rattle.claims.proofs.Pairing.{CarriesState, pairs}
 use Rattle.claims.proofs.TwoRun.{same-refusal, place, both-doubled, demand3}
-use Rattle.claims.proofs.Agreeing.{agree-refl, codes-agree, agree-marks-states}
+use Rattle.claims.proofs.Agreeing.{agree-refl, agree-marks-states}
 use Rattle.claims.proofs.ClearRun.{clear-stays}
-use Rattle.claims.proofs.Waking.{wakes-agree, marks-wake, wakes-powered}
+use Rattle.claims.proofs.Waking.{wakes-agree, marks-wake, wakes-powered, starts-agree, woken-state}
 
 -- THE DOUBLED NETLIST. What it may wake with has the values and marks of what its source may wake with
 record WokenPair (s u : List ℕ) : Type 0 where
@@ -42,9 +41,8 @@ woken-pair s u h few w =
     let cd = doubled-checked s c few in
     let xs = starts (netsOf s) in
     let rs = registersIn d u in
-    let up : Agree (starts (netsOf d)) rs = rw (registers-back (starts-registers cd)) at (rw (powered-up d u cd (w .size)) at (wakes-powered d u (check-none d .1 cd) (w .size) w) .registers) in
-    let low : IsRegisters d rs = record { size = sym (pairs-length up) ∙ starts-registers cd .size; codes = codes-agree (starts-registers cd .codes) up } in
-    let j = joins xs (starts-registers c .codes) (rw (starts-again s c few) at up) in
+    let woken = woken-state cd w in
+    let j = joins xs (starts-registers c .codes) (rw (starts-again s c few) at (starts-agree cd w)) in
     let l = starts-registers c .size in
     let full = state-size (counted-state (starts-registers c)) in
     record {
@@ -52,8 +50,8 @@ woken-pair s u h few w =
       wakes = marks-wake s (withCount xs) h full (withCount (joined rs)) (rw (powered-up s (withCount xs) c full) (agree-marks-states (counted-agree l (j .agree))));
       carries = record {
         registers = rs;
-        carried = rw (state-registers (joined rs) (sym (pairs-length (j .agree)) ∙ l)) (record { values = j .values; codes = λ k. low .codes });
-        state = counted-is low (w .count) .counted;
+        carried = rw (state-registers (joined rs) (sym (pairs-length (j .agree)) ∙ l)) (record { values = j .values; codes = λ k. woken .registers .codes });
+        state = woken .counted;
       };
     }
 

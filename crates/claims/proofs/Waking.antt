@@ -12,18 +12,18 @@ use Rattle.gates.specs.Relations.{AgreeByte, Agree}
 use Rattle.gates.proofs.Meaning.{relations-mean}
 use Rattle.image.specs.Image.{sizesOf, net, netsOf, u16}
 use Rattle.image.proofs.Nets.{length-nets}
-use Rattle.image.proofs.Pairs.{pairs-places}
+use Rattle.image.proofs.Pairs.{pairs-length, pairs-places}
 use Rattle.checking.specs.Check.{checkRefusal}
 use Rattle.checking.proofs.Checked.{Checked, check-none}
 use Rattle.cycle.specs.State.{stateLength, registersIn, AgreeStates}
-use Rattle.cycle.specs.Calls.{powerUpOf}
-use Rattle.cycle.proofs.States.{count-agree, IsState, counted-state, right-count}
+use Rattle.cycle.specs.Calls.{starts, powerUpOf}
+use Rattle.cycle.proofs.States.{count-agree, IsState, registers-back, counted-state, right-count, counted-is}
 use Rattle.cycle.proofs.Calls.{starts-registers, powered-up}
 use Rattle.cycle.proofs.Selections.{place-below, place-found}
 use Rattle.claims.specs.NetBytes.{placeOf}
 use Rattle.claims.specs.PowerUp.{WakesWith, unknown-0, unknown-1, Wakes}
 use Rattle.claims.specs.InBytes.{SameStates}
-use Rattle.claims.proofs.Agreeing.{marks-agree, parts-length}
+use Rattle.claims.proofs.Agreeing.{codes-agree, marks-agree, parts-length}
 use Rattle.claims.proofs.Accepted.{when-accepted}
 use Rattle.claims.proofs.PowerUp.{power-up-starts}
 
@@ -72,25 +72,22 @@ wakes-with (suc (suc zero)) x z l p q r m v = let o = r refl in unknown-with z (
 wakes-with (suc (suc (suc b))) x z l p q r m v = absurd (omega arith)
 
 module _ (s a : List ℕ) (h : checkRefusal s ≡ none) (l : length a ≡ stateLength (sizesOf s)) where
-  abbrev up : List ℕ
-  up = powerUpOf s a .state
+  up-state : IsState s (powerUpOf s a .state)
+  up-state = let c = check-none s .0 h in rw (powered-up s a c l) (counted-state (starts-registers c))
 
-  up-state : IsState s up
-  up-state = let c = check-none s .0 h in let z : IsState s (powerUpOf s a .state) = rw (powered-up s a c l) (counted-state (starts-registers c)) in z
-
-  pub marks-wake : (st : List ℕ) → SameStates s up st → Wakes s st
+  pub marks-wake : (st : List ℕ) → SameStates s (powerUpOf s a .state) st → Wakes s st
   marks-wake st m =
       let t = power-up-starts s a h l in
       let listed = when-accepted .check s .0 h .nets in
       let same = marks-agree (registersIn s st) (up-state .registers .codes) (m .registers) in
       record {
-        size = sym (parts-length (sizesOf s .registers) up st (m .registers .size) (m .counts)) ∙ t .size;
+        size = sym (parts-length (sizesOf s .registers) (powerUpOf s a .state) st (m .registers .size) (m .counts)) ∙ t .size;
         count = sym (m .counts) ∙ right-count up-state ∙ ap u16 (count-agree same);
         register = λ i n k.
             let p = placeOf REG s i in
             let below : p < sizesOf s .registers = rw (check-none s .0 h .registers) (place-below REG (netsOf s) i _ (omega (arith, length-nets s)) k) in
-            let there : p < length (registersIn s up) = omega (arith, up-state .registers .size) in
-            let one = getD-take _ up p 0 below in
+            let there : p < length (registersIn s (powerUpOf s a .state)) = omega (arith, up-state .registers .size) in
+            let one = getD-take _ (powerUpOf s a .state) p 0 below in
             let two = getD-take _ st p 0 below in
             wakes-with _ _ _ (listed i n .values .start k)
             (λ b. t .start-0 i n k b .byte)
@@ -100,8 +97,19 @@ module _ (s a : List ℕ) (h : checkRefusal s ≡ none) (l : length a ≡ stateL
             (rw (one, two) at (m .registers .values p there));
       }
 
-  powered-wakes : Wakes s up
+  powered-wakes : Wakes s (powerUpOf s a .state)
   powered-wakes = marks-wake _ (record { registers = record { size = refl; marks = λ i m. refl; values = λ i m o. refl }; counts = refl })
 
-  pub wakes-powered : {st : List ℕ} → Wakes s st → AgreeStates s up st
+  pub wakes-powered : {st : List ℕ} → Wakes s st → AgreeStates s (powerUpOf s a .state) st
   wakes-powered w = wakes-agree (check-none s .0 h) powered-wakes w
+
+-- so its register bytes agree with the starts, and it is a state that calls accept
+pub starts-agree : {s st : List ℕ} → Checked s → Wakes s st → Agree (starts (netsOf s)) (registersIn s st)
+starts-agree {s} {st} c w =
+    let up = rw (powered-up s st c (w .size)) at (wakes-powered s st (check-none s .1 c) (w .size) w) in
+    rw (registers-back (starts-registers c)) at (up .registers)
+
+pub woken-state : {s st : List ℕ} → Checked s → Wakes s st → IsState s st
+woken-state c w =
+    let up = starts-agree c w in
+    counted-is (record { size = sym (pairs-length up) ∙ starts-registers c .size; codes = codes-agree (starts-registers c .codes) up }) (w .count)
