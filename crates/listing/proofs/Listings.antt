@@ -12,6 +12,7 @@ use Rattle.image.specs.Image.{sizesOf, netsOf}
 use Rattle.refusals.specs.declared.answer.Refusal.{Refusal}
 use Rattle.checking.specs.Check.{checkRefusal}
 use Rattle.checking.proofs.Checked.{check-none}
+use Rattle.cycle.specs.State.{stateLength, withCount}
 use Rattle.cycle.specs.Calls.{PoweredUp, powerUpOf, starts}
 use Rattle.cycle.proofs.Calls.{powered-up}
 use Rattle.listing_text.specs.Lines.{endLine, refusedLine}
@@ -66,17 +67,17 @@ module _ (s text : List ℕ) where
     unfolding listingText
     end-only e f = one-line (listing-end e) (rw (accepted, eq-eqb (sizesOf s .inputs) 0 e, listingText)) f
 
-    pub listing-rows : {z : Sizes} {after : Held} (st : List ℕ) → z ≡ sizesOf s → (z .inputs ≡ 0 → ⊥) → length st ≡ z .registers
+    pub listing-rows : {z : Sizes} {after : Held} (st : List ℕ) → z ≡ sizesOf s → (z .inputs ≡ 0 → ⊥) → length st ≡ stateLength z
         → Lists s (z .inputs) (record { state = powerUpOf s st .state; printed = blank text }) after
         → Listing s text (after .printed)
     unfolding listingOf listingText
     listing-rows {z} {after} st e i l lists =
-        let up : powerUpOf s st .state ≡ starts (netsOf s) = ap (λ (p : PoweredUp). p .state) (powered-up s st (check-none s .0 accepted) (rw e at l)) in
+        let up : powerUpOf s st .state ≡ withCount (starts (netsOf s)) = ap (λ (p : PoweredUp). p .state) (powered-up s st (check-none s .0 accepted) (rw e at l)) in
         let begin : Holds s (record { state = powerUpOf s st .state; printed = blank text }) (atPowerUp s text) = record { state = sym up; printed = refl; outputs = length-replicate (sizesOf s .outputs) 0 } in
         let j : sizesOf s .inputs ≡ 0 → ⊥ = rw e at i in
         let rows = rowsOf (sizesOf s .inputs) (lists .input) in
         let f : after .printed ≡ withEnd (withRows s (sizesOf s .inputs) rows (atPowerUp s text)) .printed = rw e at (sym (lists .ended .leads (atPowerUp s text) begin .printed)) in
-        let t : listingText s (lists .input) ≡ linesOf s (sizesOf s .inputs) 0 (starts (netsOf s)) (replicate (sizesOf s .outputs) 0) rows =
+        let t : listingText s (lists .input) ≡ linesOf s (sizesOf s .inputs) 0 (withCount (starts (netsOf s))) (replicate (sizesOf s .outputs) 0) rows =
         rw (accepted, ne-eqb (sizesOf s .inputs) 0 j, listingText) in
         record {
           input = lists .input;
@@ -84,5 +85,5 @@ module _ (s text : List ℕ) where
           fits = λ h.
               rw t
               (ap (λ (x : Printed). x .text) f
-              ∙ lines-text s (sizesOf s .inputs) rows (starts (netsOf s)) (replicate (sizesOf s .outputs) 0) text 0 0 (let k = rw t at h in omega arith));
+              ∙ lines-text s (sizesOf s .inputs) rows (withCount (starts (netsOf s))) (replicate (sizesOf s .outputs) 0) text 0 0 (let k = rw t at h in omega arith));
         }

@@ -8,7 +8,8 @@ use Rattle.refusals.specs.Refusals.{badByte, badLength}
 use Rattle.net_checking.specs.NetCheck.{netRefusal}
 use Rattle.checking.specs.Check.{netsRefusal, checkRefusal}
 use Rattle.cycle.specs.Cycle.{pinByte, netByte, past, walk, bytesOf, verdictFrom, outputsFrom, registers, clocked, cycleOf, cyclesOf, outputsOf, stateAfter, firstOf, firstFlow}
-use Rattle.cycle.specs.Calls.{start, starts, asRun, runRefusal, runOf}
+use Rattle.cycle.specs.State.{markedCount, withCount, miscounted}
+use Rattle.cycle.specs.Calls.{start, starts, stateRefusal, asRun, counting, runRefusal, runOf}
 use Rattle.text.specs.Decimal.{digitsUpTo, decimal}
 use Rattle.listing_text.specs.Lines.{outputDigits, cycleLine, endLine, refusedLine}
 use Rattle.listing_rows.specs.Rows.{rowsUpTo}
@@ -17,11 +18,11 @@ use Rattle.listing.specs.Pages.{badNet, delay, Pages}
 
 -- what is computed with
 checking : Unit {0}
-unfolding sizesOf netAt netsFrom netsOf pinNet count netRefusal netsRefusal checkRefusal badByte badLength runRefusal
+unfolding sizesOf netAt netsFrom netsOf pinNet count netRefusal netsRefusal checkRefusal badByte badLength miscounted stateRefusal runRefusal
 checking = tt
 
 running : Unit {0}
-unfolding value mark byte andMark notByte andByte gateByte pinByte netByte past walk bytesOf verdictFrom outputsFrom registers clocked cycleOf cyclesOf outputsOf stateAfter firstOf firstFlow start starts asRun runOf
+unfolding value mark byte andMark notByte andByte gateByte pinByte netByte past walk bytesOf verdictFrom outputsFrom registers clocked cycleOf cyclesOf outputsOf stateAfter firstOf firstFlow start starts markedCount withCount asRun counting runOf
 running = tt
 
 listing : Unit {0}

@@ -11,11 +11,12 @@ use lib.Seq.{length-take-le}
 use Rattle.image.specs.Image.{sizesOf}
 use Rattle.checking.specs.Check.{checkRefusal}
 use Rattle.checking.proofs.Checked.{check-none}
+use Rattle.cycle.specs.State.{stateLength}
 use Rattle.cycle.specs.Calls.{PoweredUp, powerUpOf}
-use Rattle.cycle.proofs.Calls.{starts-state, powered-up}
+use Rattle.cycle.proofs.States.{counted-state, state-none}
+use Rattle.cycle.proofs.Calls.{starts-registers, powered-up}
 use Rattle.input.specs.Rest.{wholeOf, restOf}
 use Rattle.row_runs.specs.Taking.{AcceptedState}
-use Rattle.row_runs.proofs.Answering.{accepted-state}
 use Rattle.listing_output.specs.declared.output.Progress.{Progress}
 use Rattle.listing_output.specs.Printed.{Printed, printed, blank, withLast}
 use Rattle.listing_rows.specs.Rows.{Listed, rowsUpTo, rowsOf, withRows, withEnd}
@@ -43,10 +44,10 @@ pub held-blank : {st st′ : List ℕ} (text : List ℕ) (p : Progress) → st �
     → held st text p ≡ record { state = st′; printed = blank text }
 held-blank text p e n u o = cc
 
-pub powered-state : (s st : List ℕ) → checkRefusal s ≡ none → length st ≡ sizesOf s .registers → AcceptedState s (powerUpOf s st .state)
+pub powered-state : (s st : List ℕ) → checkRefusal s ≡ none → length st ≡ stateLength (sizesOf s) → AcceptedState s (powerUpOf s st .state)
 powered-state s st accepted size =
     let image = check-none s .0 accepted in
-    rw (ap (λ (x : PoweredUp). x .state) (powered-up s st image size)) (accepted-state (starts-state image))
+    rw (ap (λ (x : PoweredUp). x .state) (powered-up s st image size)) (state-none s _ .1 (counted-state (starts-registers image)))
 
 pub lists-from : {s : List ℕ} {i : ℕ} {a b c : Held} → a ≡ b → Lists s i a c → Lists s i b c
 lists-from e t = rw (← e) t

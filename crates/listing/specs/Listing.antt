@@ -10,6 +10,7 @@ use lib.Seq.{sets}
 use Rattle.image.specs.Image.{sizesOf, netsOf}
 use Rattle.refusals.specs.Refusals.{refusal}
 use Rattle.checking.specs.Check.{checkRefusal}
+use Rattle.cycle.specs.State.{withCount}
 use Rattle.cycle.specs.Calls.{done, refused, starts, runOf}
 use Rattle.listing_text.specs.Lines.{cycleLine, endLine, refusedLine}
 use Rattle.listing_output.specs.Printed.{Printed, blank, withLast}
@@ -17,7 +18,7 @@ use Rattle.listing_rows.specs.Rows.{Listed, rowsOf, withRows, withEnd}
 
 -- where the rows begin: the state at power-up, a buffer for O output bytes, and nothing printed
 abbrev pub atPowerUp : (s text : List ℕ) → Listed
-atPowerUp s text = record { state = starts (netsOf s); outputs = replicate (sizesOf s .outputs) 0; printed = blank text }
+atPowerUp s text = record { state = withCount (starts (netsOf s)); outputs = replicate (sizesOf s .outputs) 0; printed = blank text }
 
 -- whether no row is read: the image is refused, or I is 0
 unfoldable pub readsNone : (s : List ℕ) → Bool
@@ -55,7 +56,7 @@ listingText s input =
       | some r ↦ refusedLine r
       | none ↦ cond (eqb (sizesOf s .inputs) 0)
           (endLine 0)
-          (linesOf s (sizesOf s .inputs) 0 (starts (netsOf s)) (replicate (sizesOf s .outputs) 0) (rowsOf (sizesOf s .inputs) input))
+          (linesOf s (sizesOf s .inputs) 0 (withCount (starts (netsOf s))) (replicate (sizesOf s .outputs) 0) (rowsOf (sizesOf s .inputs) input))
     ]
 
 -- what was printed is the listing of some input; where it fits into the text with the longest line to spare, so that nothing is written out before its end, the text begins with it

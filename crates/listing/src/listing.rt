@@ -1,5 +1,6 @@
 // The whole listing: power-up, and turns of reading and taking rows until the listing is closed.
 use checking::check;
+use cycle::state_length;
 use gates::OUT;
 use image::Sizes;
 use image::sizes_of;
@@ -19,7 +20,8 @@ ghost use Prim.Native.Nat.{_≤_, _<_};
 ghost use lib.ListN.{length};
 ghost use Rattle.image.specs.Image.{sizesOf};
 ghost use Rattle.checking.specs.Check.{checkRefusal};
-ghost use Rattle.cycle.specs.Calls.{stateLength, powerUpOf};
+ghost use Rattle.cycle.specs.State.{stateLength};
+ghost use Rattle.cycle.specs.Calls.{powerUpOf};
 ghost use Rattle.listing_text.specs.Lines.{endLine};
 ghost use Rattle.listing_output.specs.Printed.{printed, blank, withLast};
 ghost use Rattle.listing_rows.specs.Taken.{held};
@@ -79,17 +81,17 @@ fn list_accepted(image: &[u8], z: Sizes, text: &mut [u8; 65536]) -> Progress
         return print_end(text, begun());
     }
     let mut outs = [0u16; 8192];
-    let mut state = [0u8; 8192];
+    let mut state = [0u8; 8194];
     let mut outputs = [0u8; 65536];
     let mut rows = [0u8; 65536];
     let o = z.outputs;
-    let registers = z.registers;
+    let st = state_length(z);
     let n = 65536 / z.inputs * z.inputs;
     take_input(
         image,
         z.inputs,
         &mut outs[..o],
-        &mut state[..registers],
+        &mut state[..st],
         &mut outputs,
         &mut rows[..n],
         text,

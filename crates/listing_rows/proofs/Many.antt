@@ -2,17 +2,18 @@
 use Prim.Native.Nat.{ℕ, _*_, _≤_}
 use native.Mathlib.Nat.{mul-le-mul}
 use native.Mathlib.Omega.{arith}
-use mathlib.Core.Path.{_≡_, refl, _∙_}
+use mathlib.Core.Path.{_≡_, refl, ap, _∙_}
 use mathlib.Core.Bool.{true}
 use mathlib.Core.List.{List}
 use mathlib.Core.Option.{none, some}
 use lib.ListN.{length, take}
 use Rattle.refusals.specs.declared.answer.Refusal.{Refusal}
 use Rattle.checking.proofs.Checked.{check-none}
+use Rattle.cycle.specs.State.{withCount, registersIn}
+use Rattle.cycle.proofs.States.{state-none}
 use Rattle.row_runs.specs.declared.running.RowsRun.{RowsRun}
 use Rattle.row_runs.specs.Rows.{rowRefusal, goodRows}
 use Rattle.row_runs.specs.Taking.{Lent, cyclesOn, RowsTaken}
-use Rattle.row_runs.proofs.Answering.{is-state}
 use Rattle.listing_text.specs.Lines.{refusedLine}
 use Rattle.listing_output.specs.declared.output.Progress.{Progress}
 use Rattle.listing_output.specs.Printed.{printed, withLast, Grown}
@@ -46,14 +47,14 @@ module _ {s : List ℕ} {i k : ℕ} {list st rows outputs text : List ℕ} {p : 
 
     -- their lines, and the refusal of the row after them
     module _ {text₁ : List ℕ} {q : Progress} (lines : printed text₁ q ≡ withLines s list (r .good) (take (r .good * length list) filled) (printed text p)) (grown : Grown text₁ (r .good) p q) where
-      lines-printed : printed text₁ q ≡ withCycles (cyclesOn s i (goodRows i k rows) rows st) (printed text p)
-      lines-printed = lines ∙ rw (t .outputs, t .good, a .known .outs .listed) (lines-are s i (goodRows i k rows) rows st (printed text p))
+      lines-printed : printed text₁ q ≡ withCycles (cyclesOn s i (goodRows i k rows) rows (registersIn s st)) (printed text p)
+      lines-printed = lines ∙ rw (t .outputs, t .good, a .known .outs .listed) (lines-are s i (goodRows i k rows) rows (registersIn s st) (printed text p))
 
       taken : {text₂ : List ℕ} (z : Progress) → printed text₂ z ≡ withRefusal (rowRefusal i k rows) (printed text₁ q) → Taken s i (rowsOf i rows) (held st text p) (held after text₂ z)
       taken z e =
           taken-to
-          (rows-taken s k rows st (printed text p) (check-none s .0 (a .known .outs .accepted)) (a .known .inputs) (a .known .some) (a .row-bytes) (is-state (a .state)) (a .going))
-          (t .state ∙ rw (t .good))
+          (rows-taken s k rows st (printed text p) (check-none s .0 (a .known .outs .accepted)) (a .known .inputs) (a .known .some) (a .row-bytes) (state-none s st .0 (a .state)) (a .going))
+          (state-none s after .0 (t .accepts) .counted ∙ ap withCount (t .registers ∙ rw (t .good)))
           (e ∙ rw lines-printed)
 
       pub many-done : rowRefusal i k rows ≡ none → Taken s i (rowsOf i rows) (held st text p) (held after text₁ q) × Leaves s after text₁ k p q

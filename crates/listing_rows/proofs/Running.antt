@@ -16,14 +16,16 @@ use Rattle.refusals.specs.declared.answer.Refusal.{Refusal}
 use Rattle.refusals.proofs.Refusals.{byte-none}
 use Rattle.checking.proofs.Checked.{Checked, check-none}
 use Rattle.cycle.specs.Cycle.{plain, Verdict, clear, flow, Cycle, cycleOf, cyclesOf, outputsOf, stateAfter, firstOf, firstFlow}
-use Rattle.cycle.specs.Calls.{done, asRun, runOf}
+use Rattle.cycle.specs.State.{withCount, registersIn}
+use Rattle.cycle.specs.Calls.{done, asRun, counting, runOf}
 use Rattle.cycle.proofs.Cycles.{outputs-length}
 use Rattle.cycle.proofs.Selections.{selection-length}
-use Rattle.cycle.proofs.Calls.{IsState, Ready, run-none, run-accepted, cycle-state}
+use Rattle.cycle.proofs.States.{IsRegisters, IsState, registers-back, counted-state, state-none}
+use Rattle.cycle.proofs.Calls.{Ready, cycle-registers}
 use Rattle.row_runs.specs.Rows.{badIn, rowRefusal, goodRows}
 use Rattle.row_runs.specs.Taking.{Lent, cyclesOn}
 use Rattle.row_runs.proofs.GoodRows.{good-row, bad-row}
-use Rattle.row_runs.proofs.Answering.{accepted-state, run-bad}
+use Rattle.row_runs.proofs.Answering.{run-good, run-bad}
 use Rattle.lists.proofs.Placing.{places-selected}
 use Rattle.listing_text.specs.Lines.{refusedLine}
 use Rattle.listing_output.specs.Printed.{Printed, withCycle, withLast}
@@ -50,24 +52,24 @@ goes-on outputs v p = refl
 
 module _ (s : List ℕ) where
   -- LINES by output bytes
-  cycle-outputs : (row st : List ℕ) → length (cycleOf plain (netsOf s) row st .outputs) ≡ length (placesFrom OUT 0 (netsOf s))
+  cycle-outputs : (row rs : List ℕ) → length (cycleOf plain (netsOf s) row rs .outputs) ≡ length (placesFrom OUT 0 (netsOf s))
   unfolding cycleOf
-  cycle-outputs row st = outputs-length 0 (netsOf s) _ ∙ sym (selection-length (places-selected OUT) 0 (netsOf s))
+  cycle-outputs row rs = outputs-length 0 (netsOf s) _ ∙ sym (selection-length (places-selected OUT) 0 (netsOf s))
 
-  cycle-verdict : (row st : List ℕ) → verdictBy s (placesFrom OUT 0 (netsOf s)) (cycleOf plain (netsOf s) row st .outputs) ≡ cycleOf plain (netsOf s) row st .verdict
+  cycle-verdict : (row rs : List ℕ) → verdictBy s (placesFrom OUT 0 (netsOf s)) (cycleOf plain (netsOf s) row rs .outputs) ≡ cycleOf plain (netsOf s) row rs .verdict
   unfolding cycleOf
-  cycle-verdict row st = verdict-by-outputs s _
+  cycle-verdict row rs = verdict-by-outputs s _
 
-  pub lines-are : (i k : ℕ) (rows st : List ℕ) (p : Printed)
-      → withLines s (placesFrom OUT 0 (netsOf s)) k (outputsOf (cyclesOn s i k rows st)) p ≡ withCycles (cyclesOn s i k rows st) p
+  pub lines-are : (i k : ℕ) (rows rs : List ℕ) (p : Printed)
+      → withLines s (placesFrom OUT 0 (netsOf s)) k (outputsOf (cyclesOn s i k rows rs)) p ≡ withCycles (cyclesOn s i k rows rs) p
   unfolding withLines withCycles cyclesOf outputsOf
-  lines-are i zero rows st p = refl
-  lines-are i (suc k) rows st p =
+  lines-are i zero rows rs p = refl
+  lines-are i (suc k) rows rs p =
       let row = take i rows in
-      let c = cycleOf plain (netsOf s) row st in
+      let c = cycleOf plain (netsOf s) row rs in
       let rest = outputsOf (cyclesOn s i k (drop i rows) (c .state)) in
       let outs = placesFrom OUT 0 (netsOf s) in
-      rw (take-at (c .outputs) rest (length outs) (cycle-outputs row st), drop-at (c .outputs) rest (length outs) (cycle-outputs row st), cycle-verdict row st)
+      rw (take-at (c .outputs) rest (length outs) (cycle-outputs row rs), drop-at (c .outputs) rest (length outs) (cycle-outputs row rs), cycle-verdict row rs)
       (lines-are i k (drop i rows) (c .state) (withCycle (c .outputs) (c .verdict) p))
 
   -- ONE ROW
@@ -76,67 +78,64 @@ module _ (s : List ℕ) where
   first-verdict clear = refl
   first-verdict (flow n) = refl
 
-  module _ {st row : List ℕ} (r : Ready s st (sizesOf s .inputs) row) where
+  -- in a listing that holds the state of the register bytes rs
+  module _ {rs : List ℕ} (row : List ℕ) (image : Checked s) (pos : 0 < sizesOf s .inputs) (registers : IsRegisters s rs) (size : length row ≡ sizesOf s .inputs)
+      {p : Printed} (l : Listed) (h : Holds s (record { state = withCount rs; printed = p }) l) where
+    lent : Lent s (sizesOf s .inputs) (sizesOf s .outputs) 1 (l .state) row (l .outputs)
+    lent =
+        record {
+          accepted = check-none s .1 image;
+          inputs = refl;
+          some = pos;
+          each = refl;
+          state = rw (h .state) (state-none s _ .1 (counted-state registers));
+          few = lit≤ tt;
+          row-bytes = size ∙ sym (one-mul (sizesOf s .inputs));
+          output-bytes = h .outputs ∙ sym (one-mul (sizesOf s .outputs));
+        }
+
     abbrev c : Cycle
-    c = cycleOf plain (netsOf s) row st
+    c = cycleOf plain (netsOf s) row rs
 
     outputs-size : length (c .outputs) ≡ sizesOf s .outputs
     unfolding cycleOf
-    outputs-size = outputs-length 0 (netsOf s) _ ∙ sym (r .image .outputs)
+    outputs-size = outputs-length 0 (netsOf s) _ ∙ sym (image .outputs)
 
-    one-run : (outs : List ℕ) → length outs ≡ sizesOf s .outputs
-        → runOf s st 1 row outs ≡ record { answer = done (firstOf 0 (c .verdict) (record { cycle = 1; verdict = clear })); state = c .state; outputs = c .outputs }
-    unfolding asRun cyclesOf outputsOf stateAfter firstFlow
-    one-run outs h =
-        let one : Ready s st (1 * sizesOf s .inputs) row = record { image = r .image; state = r .state; size = r .size ∙ sym (one-mul (sizesOf s .inputs)); codes = r .codes } in
-        let none = run-none s st 1 row outs .1 (one, lit≤ tt, h ∙ sym (one-mul (sizesOf s .outputs))) in
-        run-accepted s st 1 row outs none ∙ rw (take-all (sizesOf s .inputs) row (omega (arith, r .size)), append-nil)
+    one-run : badIn row ≡ none
+        → runOf s (l .state) 1 row (l .outputs)
+        ≡ record { answer = done (firstOf 0 (c .verdict) (record { cycle = 1; verdict = clear })); state = withCount (c .state); outputs = c .outputs }
+    unfolding asRun counting cyclesOf outputsOf stateAfter firstFlow
+    one-run good =
+        run-good lent (byte-none 13 0 row .0 good) ∙ rw (h .state, registers-back registers, take-all (sizesOf s .inputs) row (omega (arith, size)), append-nil)
 
-    row-holds : {p : Printed} (l : Listed) → Holds s (record { state = st; printed = p }) l
-        → Holds s (record { state = c .state; printed = withCycle (c .outputs) (c .verdict) p }) (withRow s row l)
+    row-holds : badIn row ≡ none → Holds s (record { state = withCount (c .state); printed = withCycle (c .outputs) (c .verdict) p }) (withRow s row l)
     unfolding withRow withAnswer
-    row-holds {p} l h =
-        let e : runOf s (l .state) 1 row (l .outputs) ≡ record { answer = done (firstOf 0 (c .verdict) (record { cycle = 1; verdict = clear })); state = c .state; outputs = c .outputs } =
-        rw (h .state) (one-run (l .outputs) (h .outputs)) in
-        rw e
+    row-holds good =
+        rw (one-run good)
         (record {
           state = refl;
           printed = rw (first-verdict (c .verdict), h .printed);
           outputs = outputs-size;
         })
 
-  bad-holds : {st : List ℕ} (row : List ℕ) {r : Refusal} → Checked s → IsState s st → length row ≡ sizesOf s .inputs → 0 < sizesOf s .inputs → badIn row ≡ some r
-      → {p : Printed} (l : Listed) → Holds s (record { state = st; printed = p }) l
-      → Holds s (record { state = st; printed = withLast (refusedLine r) p }) (withRow s row l) × (withRow s row l .printed .goesOn ≡ false)
-  unfolding withRow withAnswer withLast
-  bad-holds row image state size pos bad l h =
-      let lent : Lent s (sizesOf s .inputs) (sizesOf s .outputs) 1 (l .state) row (l .outputs) =
-      record {
-        accepted = check-none s .1 image;
-        inputs = refl;
-        some = pos;
-        each = refl;
-        state = rw (h .state) (accepted-state state);
-        few = lit≤ tt;
-        row-bytes = size ∙ sym (one-mul (sizesOf s .inputs));
-        output-bytes = h .outputs ∙ sym (one-mul (sizesOf s .outputs));
-      } in
-      let e = run-bad lent bad in
-      (rw e (record { state = h .state; printed = rw (h .printed); outputs = h .outputs }), rw e)
+    bad-holds : {r : Refusal} → badIn row ≡ some r
+        → Holds s (record { state = withCount rs; printed = withLast (refusedLine r) p }) (withRow s row l) × (withRow s row l .printed .goesOn ≡ false)
+    unfolding withRow withAnswer withLast
+    bad-holds bad = let e = run-bad lent bad in (rw e (record { state = h .state; printed = rw (h .printed); outputs = h .outputs }), rw e)
 
   -- MANY ROWS: those before the first bad one have their lines, and its refusal is the last line
-  abbrev linesLeft : (i k : ℕ) (rows st : List ℕ) → Printed → Held
-  linesLeft i k rows st p =
-      let cs = cyclesOn s i (goodRows i k rows) rows st in
-      record { state = stateAfter st cs; printed = withRefusal (rowRefusal i k rows) (withCycles cs p) }
+  abbrev linesLeft : (i k : ℕ) (rows rs : List ℕ) → Printed → Held
+  linesLeft i k rows rs p =
+      let cs = cyclesOn s i (goodRows i k rows) rows rs in
+      record { state = withCount (stateAfter rs cs); printed = withRefusal (rowRefusal i k rows) (withCycles cs p) }
 
-  rows-lines : (k : ℕ) (rows st : List ℕ) (p : Printed) → Checked s → 0 < sizesOf s .inputs → length rows ≡ k * sizesOf s .inputs → IsState s st → p .goesOn ≡ true
-      → Taken s (sizesOf s .inputs) (rowsOf (sizesOf s .inputs) rows) (record { state = st; printed = p }) (linesLeft (sizesOf s .inputs) k rows st p)
+  rows-lines : (k : ℕ) (rows rs : List ℕ) (p : Printed) → Checked s → 0 < sizesOf s .inputs → length rows ≡ k * sizesOf s .inputs → IsRegisters s rs → p .goesOn ≡ true
+      → Taken s (sizesOf s .inputs) (rowsOf (sizesOf s .inputs) rows) (record { state = withCount rs; printed = p }) (linesLeft (sizesOf s .inputs) k rows rs p)
   unfolding cyclesOf stateAfter withCycles goodRows rowRefusal
-  rows-lines zero rows st p image pos size state going =
+  rows-lines zero rows rs p image pos size registers going =
       record { leads = λ l h. rw (rows-none s (sizesOf s .inputs) rows l (size ∙ zero-mul (sizesOf s .inputs))) h }
-  rows-lines (suc k) rows st p image pos size state going =
-      by (badIn row) refl (λ st′ p′. rows-lines k (drop i rows) st′ p′ image pos (omega (arith, size, suc-mul k i, length-drop i rows)))
+  rows-lines (suc k) rows rs p image pos size registers going =
+      by (badIn row) refl (λ rs′ p′. rows-lines k (drop i rows) rs′ p′ image pos (omega (arith, size, suc-mul k i, length-drop i rows)))
     where
       i : ℕ
       i = sizesOf s .inputs
@@ -151,27 +150,29 @@ module _ (s : List ℕ) where
       row-size = length-take-le i rows long
 
       c : Cycle
-      c = cycleOf plain (netsOf s) row st
+      c = cycleOf plain (netsOf s) row rs
 
-      open-then : {l : Listed} → Holds s (record { state = st; printed = p }) l → l .printed .goesOn ≡ true
+      open-then : {l : Listed} → Holds s (record { state = withCount rs; printed = p }) l → l .printed .goesOn ≡ true
       open-then h = ap (λ (q : Printed). q .goesOn) (h .printed) ∙ going
 
       by : (o : Option Refusal) → badIn row ≡ o
-          → ((st′ : List ℕ) (p′ : Printed) → IsState s st′ → p′ .goesOn ≡ true → Taken s i (rowsOf i (drop i rows)) (record { state = st′; printed = p′ }) (linesLeft i k (drop i rows) st′ p′))
-          → Taken s i (rowsOf i rows) (record { state = st; printed = p }) (linesLeft i (suc k) rows st p)
+          → ((rs′ : List ℕ) (p′ : Printed) → IsRegisters s rs′ → p′ .goesOn ≡ true → Taken s i (rowsOf i (drop i rows)) (record { state = withCount rs′; printed = p′ }) (linesLeft i k (drop i rows) rs′ p′))
+          → Taken s i (rowsOf i rows) (record { state = withCount rs; printed = p }) (linesLeft i (suc k) rows rs p)
       by none e later =
-          let first : Ready s st i row = record { image = image; state = state; size = row-size; codes = byte-none 13 0 row .0 e } in
-          let more = later (c .state) (withCycle (c .outputs) (c .verdict) p) (cycle-state first) (goes-on (c .outputs) (c .verdict) p ∙ going) in
+          let first : Ready s rs i row = record { image = image; registers = registers; size = row-size; codes = byte-none 13 0 row .0 e } in
+          let more = later (c .state) (withCycle (c .outputs) (c .verdict) p) (cycle-registers first) (goes-on (c .outputs) (c .verdict) p ∙ going) in
           let row-is = good-row i k rows e in
-          record { leads = λ l h. rw (rows-whole s i pos rows l (open-then h) long, row-is .0, row-is .1) (more .leads (withRow s row l) (row-holds first l h)) }
+          record { leads = λ l h. rw (rows-whole s i pos rows l (open-then h) long, row-is .0, row-is .1) (more .leads (withRow s row l) (row-holds row image pos registers row-size l h e)) }
       by (some r) e later =
           let row-is = bad-row i k rows e in
           record {
             leads = λ l h.
-                let bad = bad-holds row image state row-size pos e l h in
+                let bad = bad-holds row image pos registers row-size l h e in
                 rw (rows-whole s i pos rows l (open-then h) long, rows-closed s i (rowsOf i (drop i rows)) (withRow s row l) (bad .1), row-is .0, row-is .1) (bad .0);
           }
 
   pub rows-taken : {i : ℕ} (k : ℕ) (rows st : List ℕ) (p : Printed) → Checked s → i ≡ sizesOf s .inputs → 0 < i → length rows ≡ k * i → IsState s st → p .goesOn ≡ true
-      → Taken s i (rowsOf i rows) (record { state = st; printed = p }) (linesLeft i k rows st p)
-  rows-taken k rows st p image inputs pos size state going = rw inputs (rows-lines k rows st p image (rw inputs at pos) (size ∙ ap (λ m. k * m) inputs) state going)
+      → Taken s i (rowsOf i rows) (record { state = st; printed = p }) (linesLeft i k rows (registersIn s st) p)
+  rows-taken k rows st p image inputs pos size state going =
+      let t = rows-lines k rows (registersIn s st) p image (rw inputs at pos) (size ∙ ap (λ m. k * m) inputs) (state .registers) going in
+      rw inputs (rw (← (state .counted)) at t)

@@ -10,7 +10,7 @@ use Rattle.cycle.specs.Calls.{Answer, done, refused, runOf}
 use Rattle.listing_text.specs.Lines.{endLine, refusedLine}
 use Rattle.listing_output.specs.Printed.{Printed, withCycle, withLast}
 
--- how far a listing has come: the state of the registers, the lent buffer of output bytes, and what is printed
+-- how far a listing has come: the state, the lent buffer of output bytes, and what is printed
 pub record Listed : Type 0 where
   pub state : List ℕ
   pub outputs : List ℕ

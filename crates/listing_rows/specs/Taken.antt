@@ -17,7 +17,7 @@ pub record Known (s : List ℕ) (i : ℕ) (list : List ℕ) : Type 0 where
   pub inputs : i ≡ sizesOf s .inputs
   pub some : 0 < i
 
--- what the code holds of a listing: the state of the registers, and what is printed. Output bytes are printed with their row, and no later line depends on them
+-- what the code holds of a listing: the state, and what is printed. Output bytes are printed with their row, and no later line depends on them
 pub record Held : Type 0 where
   pub state : List ℕ
   pub printed : Printed

@@ -40,22 +40,22 @@ module _ (s : List ℕ) (i : ℕ) (pos : 0 < i) where
   abbrev o : ℕ
   o = length (outsOf s)
 
-  outputs-size : (k : ℕ) (bytes st : List ℕ) → length (outputsOf (cyclesOn s i k bytes st)) ≡ k * o
-  outputs-size k bytes st = outputs-of-length plain (netsOf s) i k bytes st ∙ ap (λ m. k * m) (sym (selection-length (places-selected OUT) 0 (netsOf s)))
+  outputs-size : (k : ℕ) (bytes rs : List ℕ) → length (outputsOf (cyclesOn s i k bytes rs)) ≡ k * o
+  outputs-size k bytes rs = outputs-of-length plain (netsOf s) i k bytes rs ∙ ap (λ m. k * m) (sym (selection-length (places-selected OUT) 0 (netsOf s)))
 
   -- the outputs of some rows, and of others after them
-  outputs-split : (a b : ℕ) (bytes st : List ℕ)
-      → outputsOf (cyclesOn s i (a + b) bytes st)
-      ≡ outputsOf (cyclesOn s i a bytes st) ++ outputsOf (cyclesOn s i b (drop (a * i) bytes) (stateAfter st (cyclesOn s i a bytes st)))
-  outputs-split a b bytes st = rw (cycles-split plain (netsOf s) i a b bytes st, outputs-append)
+  outputs-split : (a b : ℕ) (bytes rs : List ℕ)
+      → outputsOf (cyclesOn s i (a + b) bytes rs)
+      ≡ outputsOf (cyclesOn s i a bytes rs) ++ outputsOf (cyclesOn s i b (drop (a * i) bytes) (stateAfter rs (cyclesOn s i a bytes rs)))
+  outputs-split a b bytes rs = rw (cycles-split plain (netsOf s) i a b bytes rs, outputs-append)
 
   -- ONE PAGE, and those after it
-  module _ (first : ℕ) (bytes st : List ℕ) (long : 64 * i ≤ length bytes) (good : goodRows i 64 bytes ≡ 64) where
+  module _ (first : ℕ) (bytes rs : List ℕ) (long : 64 * i ≤ length bytes) (good : goodRows i 64 bytes ≡ 64) where
     abbrev rest : List ℕ
     rest = drop (64 * i) bytes
 
     abbrev after : List ℕ
-    after = stateAfter st (cyclesOn s i 64 bytes st)
+    after = stateAfter rs (cyclesOn s i 64 bytes rs)
 
     size : length bytes ≡ 64 * i + length rest
     size = omega (arith, length-drop (64 * i) bytes)
@@ -73,20 +73,20 @@ module _ (s : List ℕ) (i : ℕ) (pos : 0 < i) where
         let m : length bytes % i ≡ length rest % i = ap (λ m. m % i) size ∙ mul-add-mod-self-right 64 i (length rest) in
         rw (m, rows-are, good-split i 64 (length rest / i) bytes good .1)
 
-    pages-are : cyclePages s i first (rowsTaken i bytes) bytes st
-        ≡ pageText first 64 (outsOf s) (outputsOf (cyclesOn s i 64 bytes st)) ++ cyclePages s i (first + 64) (rowsTaken i rest) rest after
+    pages-are : cyclePages s i first (rowsTaken i bytes) bytes rs
+        ≡ pageText first 64 (outsOf s) (outputsOf (cyclesOn s i 64 bytes rs)) ++ cyclePages s i (first + 64) (rowsTaken i rest) rest after
     unfolding cyclePages
     pages-are =
         let k = rowsTaken i rest in
-        let xs = outputsOf (cyclesOn s i 64 bytes st) in
+        let xs = outputsOf (cyclesOn s i 64 bytes rs) in
         let ys = outputsOf (cyclesOn s i k rest after) in
         let m : min 64 (64 + k) ≡ 64 = min-eq-left (omega arith) in
         let n : 64 + k - 64 ≡ k = omega arith in
-        rw (taken-are, outputs-split 64 k bytes st)
+        rw (taken-are, outputs-split 64 k bytes rs)
         (pages-next first (64 + k) (outsOf s) (xs ++ ys) (omega arith)
-        ∙ rw (m, n, page-front first 64 (outsOf s) xs ys (omega (arith, outputs-size 64 bytes st)), drop-at xs ys (64 * o) (outputs-size 64 bytes st)))
+        ∙ rw (m, n, page-front first 64 (outsOf s) xs ys (omega (arith, outputs-size 64 bytes rs)), drop-at xs ys (64 * o) (outputs-size 64 bytes rs)))
 
-    pub page-first : pagesFrom s i first bytes st ≡ pageText first 64 (outsOf s) (outputsOf (cyclesOn s i 64 bytes st)) ++ pagesFrom s i (first + 64) rest after
+    pub page-first : pagesFrom s i first bytes rs ≡ pageText first 64 (outsOf s) (outputsOf (cyclesOn s i 64 bytes rs)) ++ pagesFrom s i (first + 64) rest after
     unfolding pagesFrom
     page-first = rw (pages-are, refusal-is, append-assoc)
 
@@ -94,16 +94,16 @@ module _ (s : List ℕ) (i : ℕ) (pos : 0 < i) where
   pub good-append : (a : ℕ) (bytes more : List ℕ) → a * i ≤ length bytes → goodRows i a (bytes ++ more) ≡ goodRows i a bytes
   good-append a bytes more h = sym (good-take i a (bytes ++ more) .0) ∙ rw (take-append-le (a * i) bytes more h) (good-take i a bytes .0)
 
-  pub cycles-append : (a : ℕ) (bytes more st : List ℕ) → a * i ≤ length bytes → cyclesOn s i a (bytes ++ more) st ≡ cyclesOn s i a bytes st
-  cycles-append a bytes more st h =
-      sym (cycles-front plain (netsOf s) i a a (bytes ++ more) st (omega arith))
-      ∙ rw (take-append-le (a * i) bytes more h) (cycles-front plain (netsOf s) i a a bytes st (omega arith))
+  pub cycles-append : (a : ℕ) (bytes more rs : List ℕ) → a * i ≤ length bytes → cyclesOn s i a (bytes ++ more) rs ≡ cyclesOn s i a bytes rs
+  cycles-append a bytes more rs h =
+      sym (cycles-front plain (netsOf s) i a a (bytes ++ more) rs (omega arith))
+      ∙ rw (take-append-le (a * i) bytes more h) (cycles-front plain (netsOf s) i a a bytes rs (omega arith))
 
   -- no page, and one page more
-  pages-zero : (first : ℕ) (more st : List ℕ) → pagesFrom s i first more st
-      ≡ pagesText 0 first (0 * 64) (outsOf s) (outputsOf (cyclesOn s i (0 * 64) [] st)) ++ pagesFrom s i (first + 0 * 64) more (stateAfter st (cyclesOn s i (0 * 64) [] st))
+  pages-zero : (first : ℕ) (more rs : List ℕ) → pagesFrom s i first more rs
+      ≡ pagesText 0 first (0 * 64) (outsOf s) (outputsOf (cyclesOn s i (0 * 64) [] rs)) ++ pagesFrom s i (first + 0 * 64) more (stateAfter rs (cyclesOn s i (0 * 64) [] rs))
   unfolding pagesText cyclesOf stateAfter
-  pages-zero first more st = let none : 0 * 64 ≡ 0 = omega arith in rw (none, add-zero)
+  pages-zero first more rs = let none : 0 * 64 ≡ 0 = omega arith in rw (none, add-zero)
 
   pages-suc : (n first : ℕ) (xs ys : List ℕ) → length xs ≡ 64 * o
       → pagesText (suc n) first (64 + n * 64) (outsOf s) (xs ++ ys) ≡ pageText first 64 (outsOf s) xs ++ pagesText n (first + 64) (n * 64) (outsOf s) ys
@@ -114,29 +114,29 @@ module _ (s : List ℕ) (i : ℕ) (pos : 0 < i) where
       rw (least, left, page-front first 64 (outsOf s) xs ys (omega arith), drop-at xs ys (64 * o) h)
 
   -- SOME PAGES, and what is printed for the bytes after theirs
-  pub pages-after : (n first : ℕ) (bytes more st : List ℕ) → length bytes ≡ n * 64 * i → goodRows i (n * 64) bytes ≡ n * 64
-      → pagesFrom s i first (bytes ++ more) st
-      ≡ pagesText n first (n * 64) (outsOf s) (outputsOf (cyclesOn s i (n * 64) bytes st)) ++ pagesFrom s i (first + n * 64) more (stateAfter st (cyclesOn s i (n * 64) bytes st))
-  pages-after zero first [] more st l good = pages-zero first more st
-  pages-after zero first (b ∷ bytes) more st l good = absurd (omega (arith, l, zero-mul i))
-  pages-after (suc n) first bytes more st l good =
+  pub pages-after : (n first : ℕ) (bytes more rs : List ℕ) → length bytes ≡ n * 64 * i → goodRows i (n * 64) bytes ≡ n * 64
+      → pagesFrom s i first (bytes ++ more) rs
+      ≡ pagesText n first (n * 64) (outsOf s) (outputsOf (cyclesOn s i (n * 64) bytes rs)) ++ pagesFrom s i (first + n * 64) more (stateAfter rs (cyclesOn s i (n * 64) bytes rs))
+  pages-after zero first [] more rs l good = pages-zero first more rs
+  pages-after zero first (b ∷ bytes) more rs l good = absurd (omega (arith, l, zero-mul i))
+  pages-after (suc n) first bytes more rs l good =
       let m : suc n * 64 ≡ 64 + n * 64 = omega arith in
       let size : length bytes ≡ 64 * i + n * 64 * i = l ∙ ap (λ k. k * i) m ∙ add-mul 64 (n * 64) i in
       let all : goodRows i (64 + n * 64) bytes ≡ 64 + n * 64 = ap (λ k. goodRows i k bytes) (sym m) ∙ good ∙ m in
       let front = good-first i 64 (n * 64) bytes all in
       let long : 64 * i ≤ length bytes = omega arith in
       let rest = drop (64 * i) bytes in
-      let after = stateAfter st (cyclesOn s i 64 bytes st) in
-      let xs = outputsOf (cyclesOn s i 64 bytes st) in
+      let after = stateAfter rs (cyclesOn s i 64 bytes rs) in
+      let xs = outputsOf (cyclesOn s i 64 bytes rs) in
       let ys = outputsOf (cyclesOn s i (n * 64) rest after) in
       let others : goodRows i (n * 64) rest ≡ n * 64 = omega (arith, all, good-split i 64 (n * 64) bytes front .0) in
-      let page = page-first first (bytes ++ more) st (omega (arith, length-append bytes more)) (good-append 64 bytes more long ∙ front) in
-      let cycles = cycles-append 64 bytes more st long in
+      let page = page-first first (bytes ++ more) rs (omega (arith, length-append bytes more)) (good-append 64 bytes more long ∙ front) in
+      let cycles = cycles-append 64 bytes more rs long in
       let later = pages-after n (first + 64) rest more after (omega (arith, length-drop (64 * i) bytes)) others in
       let number : first + 64 + n * 64 ≡ first + (64 + n * 64) = omega arith in
-      let ends : stateAfter st (cyclesOn s i (64 + n * 64) bytes st) ≡ stateAfter after (cyclesOn s i (n * 64) rest after) =
-      rw (cycles-split plain (netsOf s) i 64 (n * 64) bytes st, state-append) in
-      let pages : pagesText (suc n) first (64 + n * 64) (outsOf s) (outputsOf (cyclesOn s i (64 + n * 64) bytes st)) ≡ pageText first 64 (outsOf s) xs ++ pagesText n (first + 64) (n * 64) (outsOf s) ys =
-      rw (outputs-split 64 (n * 64) bytes st) (pages-suc n first xs ys (outputs-size 64 bytes st)) in
+      let ends : stateAfter rs (cyclesOn s i (64 + n * 64) bytes rs) ≡ stateAfter after (cyclesOn s i (n * 64) rest after) =
+      rw (cycles-split plain (netsOf s) i 64 (n * 64) bytes rs, state-append) in
+      let pages : pagesText (suc n) first (64 + n * 64) (outsOf s) (outputsOf (cyclesOn s i (64 + n * 64) bytes rs)) ≡ pageText first 64 (outsOf s) xs ++ pagesText n (first + 64) (n * 64) (outsOf s) ys =
+      rw (outputs-split 64 (n * 64) bytes rs) (pages-suc n first xs ys (outputs-size 64 bytes rs)) in
       rw (m, pages, ends, ← number)
       (page ∙ rw (cycles, drop-append-le (64 * i) bytes more long, later) (sym (append-assoc (pageText first 64 (outsOf s) xs) (pagesText n (first + 64) (n * 64) (outsOf s) ys) _)))

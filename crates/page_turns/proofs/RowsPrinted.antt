@@ -14,6 +14,7 @@ use Rattle.refusals.specs.declared.answer.Outcome.{Outcome}
 use Rattle.refusals.specs.Refusals.{refuse, _then_, refusalIn}
 use Rattle.checking.proofs.Checked.{check-none, few-of}
 use Rattle.cycle.specs.Cycle.{plain, outputsOf}
+use Rattle.cycle.specs.State.{registersIn}
 use Rattle.cycle.proofs.Selections.{selection-length}
 use Rattle.lists.proofs.Placing.{places-selected}
 use Rattle.row_runs.specs.declared.running.RowsRun.{RowsRun}
@@ -76,17 +77,17 @@ module _ {s : List ℕ} {i : ℕ} {outs st outputs text : List ℕ} (a : Asks s 
       unfolding rowsTaken
       good-is = t .good ∙ good-take i whole bytes .0
 
-      cycles-are : cyclesOn s i (r .good) (take (whole * i) bytes) st ≡ cyclesOn s i (rowsTaken i bytes) bytes st
-      cycles-are = cycles-front plain (netsOf s) i (r .good) whole bytes st (t .few) ∙ rw good-is
+      cycles-are : cyclesOn s i (r .good) (take (whole * i) bytes) (registersIn s st) ≡ cyclesOn s i (rowsTaken i bytes) bytes (registersIn s st)
+      cycles-are = cycles-front plain (netsOf s) i (r .good) whole bytes (registersIn s st) (t .few) ∙ rw good-is
 
       -- what is printed for them
       abbrev shown : List ℕ
       shown = take (r .good * length outs) (filled ++ drop (whole * length outs) outputs)
 
-      pages-are : (first : ℕ) → pagesText (pageCount (r .good)) first (r .good) outs shown ≡ cyclePages s i first (rowsTaken i bytes) bytes st
+      pages-are : (first : ℕ) → pagesText (pageCount (r .good)) first (r .good) outs shown ≡ cyclePages s i first (rowsTaken i bytes) bytes (registersIn s st)
       unfolding cyclePages
       pages-are first =
-          let bytes-are : shown ≡ outputsOf (cyclesOn s i (rowsTaken i bytes) bytes st) =
+          let bytes-are : shown ≡ outputsOf (cyclesOn s i (rowsTaken i bytes) bytes (registersIn s st)) =
           take-append-le (r .good * length outs) filled (drop (whole * length outs) outputs) good-within ∙ t .outputs ∙ ap outputsOf cycles-are in
           rw (bytes-are, good-is, a .listed)
 
@@ -105,7 +106,7 @@ module _ {s : List ℕ} {i : ℕ} {outs st outputs text : List ℕ} (a : Asks s 
           record {
             good = good-is;
             few = good-few;
-            state = t .state ∙ rw cycles-are;
+            registers = t .registers ∙ rw cycles-are;
             accepts = t .accepts;
             text = both-put text (pagesText (pageCount (r .good)) first (r .good) outs shown) (lastLine (refusalIn o)) e f g h within ∙ rw (pages-are first, refusal-is o refused);
             within = within;

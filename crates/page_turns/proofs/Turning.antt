@@ -12,4 +12,4 @@ pub turn-made : {s : List ℕ} {i read : ℕ} (rows : List ℕ) {before after te
     → Taken s i (p .cycles) (take read rows) before after text r → read ≤ length rows
     → Turned s i before after rows text p (record { cycles = p .cycles + r .good; read = read; used = r .used; «open» = eqb (r .good) 64; failed = failed })
 unfolding turnOf
-turn-made rows p r t few = record { is = rw (t .text, t .state, t .good); accepts = t .accepts; few = few }
+turn-made rows p r t few = record { is = rw (t .text, t .registers, t .good); accepts = t .accepts; few = few }

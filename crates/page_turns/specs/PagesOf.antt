@@ -26,10 +26,10 @@ abbrev pub lastLine : Option Refusal → List ℕ
 lastLine none = []
 lastLine (some r) = refusedLine r
 
--- the pages of k cycles of an image s, the first of which is cycle `first`, from the state st
-unfoldable pub cyclePages : (s : List ℕ) (i first k : ℕ) (bytes st : List ℕ) → List ℕ
-cyclePages s i first k bytes st = pagesText (pageCount k) first k (outsOf s) (outputsOf (cyclesOn s i k bytes st))
+-- the pages of k cycles of an image s, the first of which is cycle `first`, from the register bytes rs
+unfoldable pub cyclePages : (s : List ℕ) (i first k : ℕ) (bytes rs : List ℕ) → List ℕ
+cyclePages s i first k bytes rs = pagesText (pageCount k) first k (outsOf s) (outputsOf (cyclesOn s i k bytes rs))
 
 -- what is printed for some bytes: the pages of the rows that are taken, and a refusal as the last line
-unfoldable pub pagesFrom : (s : List ℕ) (i first : ℕ) (bytes st : List ℕ) → List ℕ
-pagesFrom s i first bytes st = cyclePages s i first (rowsTaken i bytes) bytes st ++ lastLine (rowsRefusal i bytes)
+unfoldable pub pagesFrom : (s : List ℕ) (i first : ℕ) (bytes rs : List ℕ) → List ℕ
+pagesFrom s i first bytes rs = cyclePages s i first (rowsTaken i bytes) bytes rs ++ lastLine (rowsRefusal i bytes)

@@ -16,12 +16,13 @@ use Rattle.checking.specs.Check.{checkRefusal}
 use Rattle.checking.proofs.Checked.{check-none}
 use Rattle.cycle.specs.Cycle.{plain, cyclesOf, stateAfter}
 use Rattle.cycle.specs.Answers.{poweredUp}
-use Rattle.cycle.specs.Calls.{stateLength, starts, PoweredUp, powerUpOf}
-use Rattle.cycle.proofs.Calls.{starts-state, powered-up}
+use Rattle.cycle.specs.State.{stateLength, withCount, registersIn}
+use Rattle.cycle.specs.Calls.{starts, PoweredUp, powerUpOf}
+use Rattle.cycle.proofs.States.{registers-back, counted-state, state-none}
+use Rattle.cycle.proofs.Calls.{starts-registers, powered-up}
 use Rattle.row_runs.specs.Rows.{goodRows}
 use Rattle.row_runs.specs.Taking.{AcceptedState, cyclesOn}
 use Rattle.row_runs.proofs.GoodRows.{good-few}
-use Rattle.row_runs.proofs.Answering.{accepted-state}
 use Rattle.row_runs.proofs.Parting.{good-split, cycles-split, state-append}
 use Rattle.listing_text.specs.Lines.{refusedLine}
 use Rattle.page_text.specs.Pages.{pagesText}
@@ -51,27 +52,27 @@ at-once s text used e =
     let z : 0 * 64 ≡ 0 = omega arith in
     record { turns = 0; earlier = []; last = []; full = rw z (sym (zero-mul (sizesOf s .inputs))); upto = omega arith; is = e }
 
--- SO FAR: n turns took 64 good rows each
-pub record Sofar (s : List ℕ) (n cycles : ℕ) (st : List ℕ) : Type 0 where
+-- SO FAR: n turns took 64 good rows each, and left the register bytes rs
+pub record Sofar (s : List ℕ) (n cycles : ℕ) (rs : List ℕ) : Type 0 where
   pub earlier : List ℕ
   pub full : length earlier ≡ n * 64 * sizesOf s .inputs
   pub good : goodRows (sizesOf s .inputs) (n * 64) earlier ≡ n * 64
-  pub state : st ≡ stateAfter (starts (netsOf s)) (cyclesOn s (sizesOf s .inputs) (n * 64) earlier (starts (netsOf s)))
+  pub registers : rs ≡ stateAfter (starts (netsOf s)) (cyclesOn s (sizesOf s .inputs) (n * 64) earlier (starts (netsOf s)))
   pub cycles-are : cycles ≡ n * 64
 
 -- or to the end
 pub record Came (s : List ℕ) (n : ℕ) (st text : List ℕ) (p : Progress) : Type 0 where
-  pub going : p .open ≡ true → Sofar s n (p .cycles) st
+  pub going : p .open ≡ true → Sofar s n (p .cycles) (registersIn s st)
   pub ended : p .open ≡ false → PagesPrinted s text (p .used)
 
 sofar-begins : (s : List ℕ) → Sofar s 0 0 (starts (netsOf s))
 unfolding goodRows cyclesOf stateAfter
 sofar-begins s =
     let z : 0 * 64 ≡ 0 = omega arith in
-    record { earlier = []; full = rw z (sym (zero-mul (sizesOf s .inputs))); good = refl; state = refl; cycles-are = omega arith }
+    record { earlier = []; full = rw z (sym (zero-mul (sizesOf s .inputs))); good = refl; registers = refl; cycles-are = omega arith }
 
 module _ {s : List ℕ} (accepted : checkRefusal s ≡ none) (pos : 0 < sizesOf s .inputs) {n : ℕ} {before after rows text : List ℕ} {p q : Progress}
-    (f : Sofar s n (p .cycles) before) (t : Turned s (sizesOf s .inputs) before after rows text p q) (size : length rows ≡ 64 * sizesOf s .inputs) where
+    (f : Sofar s n (p .cycles) (registersIn s before)) (t : Turned s (sizesOf s .inputs) before after rows text p q) (size : length rows ≡ 64 * sizesOf s .inputs) where
   abbrev i : ℕ
   i = sizesOf s .inputs
 
@@ -100,7 +101,7 @@ module _ {s : List ℕ} (accepted : checkRefusal s ≡ none) (pos : 0 < sizesOf 
             sym
             (printed-rows s (f .earlier ++ piece) accepted pos
             ∙ pages-after s i pos n 0 (f .earlier) piece begin (f .full) (f .good)
-            ∙ rw (number, ← (f .state), printed));
+            ∙ rw (number, ← (f .registers), printed));
       }
 
   -- another one follows
@@ -134,13 +135,13 @@ module _ {s : List ℕ} (accepted : checkRefusal s ≡ none) (pos : 0 < sizesOf 
     behind : drop (n * 64 * i) (f .earlier ++ piece) ≡ piece
     behind = drop-at (f .earlier) piece (n * 64 * i) (f .full)
 
-    state-is : after ≡ stateAfter begin (cyclesOn s i (n * 64 + 64) (f .earlier ++ piece) begin)
+    registers-are : registersIn s after ≡ stateAfter begin (cyclesOn s i (n * 64 + 64) (f .earlier ++ piece) begin)
     unfolding turnOf
-    state-is =
-        ap (λ (x : Turn). x .state) (t .is)
-        ∙ rw (taken, cycles-split plain (netsOf s) i (n * 64) 64 (f .earlier ++ piece) begin, state-append, cycles-append s i pos (n * 64) (f .earlier) piece begin rows-so-far, behind, ← (f .state))
+    registers-are =
+        ap (λ (x : Turn). x .registers) (t .is)
+        ∙ rw (taken, cycles-split plain (netsOf s) i (n * 64) 64 (f .earlier ++ piece) begin, state-append, cycles-append s i pos (n * 64) (f .earlier) piece begin rows-so-far, behind, ← (f .registers))
 
-    turn-goes-on : Sofar s (n + 1) (q .cycles) after
+    turn-goes-on : Sofar s (n + 1) (q .cycles) (registersIn s after)
     unfolding turnOf
     turn-goes-on =
         let first : goodRows i (n * 64) (f .earlier ++ piece) ≡ n * 64 = good-append s i pos (n * 64) (f .earlier) piece rows-so-far ∙ f .good in
@@ -148,14 +149,14 @@ module _ {s : List ℕ} (accepted : checkRefusal s ≡ none) (pos : 0 < sizesOf 
           earlier = f .earlier ++ piece;
           full = omega (arith, length-append (f .earlier) piece, f .full, all-bytes, ap (λ k. k * i) more, add-mul (n * 64) 64 i);
           good = rw more (good-split i (n * 64) 64 (f .earlier ++ piece) first .0 ∙ rw (behind, all-good));
-          state = rw more state-is;
+          registers = rw more registers-are;
           cycles-are = omega (arith, ap (λ (x : Turn). x .cycles) (t .is), taken, f .cycles-are);
         }
 
   pub came-on : Came s (n + 1) after text q
   came-on = record { going = turn-goes-on; ended = λ h. turn-ends }
 
-pub came-begins : {s st text : List ℕ} (p : Progress) → st ≡ starts (netsOf s) → p .cycles ≡ 0 → p .open ≡ true → Came s 0 st text p
+pub came-begins : {s st text : List ℕ} (p : Progress) → registersIn s st ≡ starts (netsOf s) → p .cycles ≡ 0 → p .open ≡ true → Came s 0 st text p
 came-begins {s} p e c o = record { going = λ h. rw (e, c) (sofar-begins s); ended = λ h. let z : _≡_ {A = ℕ} 0 1 = cc (o, h) in absurd (omega arith) }
 
 -- IN THE LOOP: what the next turn asks, and how far the turns came
@@ -186,12 +187,14 @@ holds-on {s} h going t rows outputs text =
 pub holds-few : {s : List ℕ} {i : ℕ} {outs st outputs text : List ℕ} {n : ℕ} {p : Progress} → Holds s i outs st outputs text n p → p .open ≡ true → p .cycles ≡ n * 64
 holds-few h going = h .came .going going .cycles-are
 
--- power-up
-pub powered : (s before : List ℕ) {after : List ℕ} (o : Outcome) → checkRefusal s ≡ none → length before ≡ stateLength (sizesOf s) → poweredUp o after ≡ powerUpOf s before → after ≡ starts (netsOf s)
-powered s before o accepted size e = ap (λ (x : PoweredUp). x .state) (e ∙ powered-up s before (check-none s .0 accepted) size)
-
-pub starts-accepted : {s st : List ℕ} → checkRefusal s ≡ none → st ≡ starts (netsOf s) → AcceptedState s st
-starts-accepted {s} accepted e = rw e (accepted-state (starts-state (check-none s .0 accepted)))
+-- power-up leaves a state that a run accepts, and the starts in its registers
+pub powered : (s before : List ℕ) {after : List ℕ} (o : Outcome) → checkRefusal s ≡ none → length before ≡ stateLength (sizesOf s) → poweredUp o after ≡ powerUpOf s before
+    → AcceptedState s after × (registersIn s after ≡ starts (netsOf s))
+powered s before {after} o accepted size e =
+    let image = check-none s .0 accepted in
+    let r = starts-registers image in
+    let is : after ≡ withCount (starts (netsOf s)) = ap (λ (x : PoweredUp). x .state) (e ∙ powered-up s before image size) in
+    rw is (state-none s _ .1 (counted-state r), registers-back r)
 
 -- TESTS: turns go on without a failure, and a third test; neither of two
 pub goes-on : (p q r : Bool) → ((p && not q) && r) ≡ true → (p ≡ true) × (q ≡ false) × (r ≡ true)

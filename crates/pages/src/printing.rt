@@ -19,7 +19,7 @@ ghost use Prim.Native.Nat.{_+_, _*_, _≤_, _<_};
 ghost use lib.ListN.{length, take};
 ghost use Rattle.image.specs.Image.{sizesOf};
 ghost use Rattle.checking.specs.Check.{checkRefusal};
-ghost use Rattle.cycle.specs.Calls.{stateLength};
+ghost use Rattle.cycle.specs.State.{stateLength};
 ghost use Rattle.listing_text.specs.Lines.{refusedLine};
 ghost use Rattle.pages.specs.Printed.{PagesPrinted};
 

@@ -21,46 +21,50 @@ use Rattle.cycle.specs.declared.answer.RunAnswer.{RunAnswer}
 use Rattle.cycle.specs.declared.answer.RunAnswer.the-variants.{Done, Refused}
 use Rattle.cycle.specs.Answers.{ran}
 use Rattle.cycle.specs.Cycle.{plain, FirstFlow, outputsOf, stateAfter}
-use Rattle.cycle.specs.Calls.{Answer, refused, Ran, asRun, runRefusal, runOf}
-use Rattle.cycle.proofs.Calls.{either-way, run-accepted, run-refused, IsState, Ready, run-none, run-state}
+use Rattle.cycle.specs.State.{withCount, registersIn}
+use Rattle.cycle.specs.Calls.{Answer, refused, Ran, asRun, counting, runRefusal, runOf}
+use Rattle.cycle.proofs.States.{IsRegisters, registers-back, counted-state, state-none}
+use Rattle.cycle.proofs.Calls as calls
+use Rattle.cycle.proofs.Calls.{either-way, run-accepted, run-refused, run-none, lent-ready, run-registers}
 use Rattle.cycle.proofs.Runs.{outputs-of-length}
 use Rattle.row_runs.specs.Rows.{goodRows}
 use Rattle.row_runs.specs.Taking.{AcceptedState, Lent, cyclesOn, RowsTaken}
 use Rattle.row_runs.proofs.GoodRows.{all-good, good-codes, BadRow, row-of-bad, cycles-take}
 
--- a state that a run accepts
-pub is-state : {s st : List ℕ} → AcceptedState s st → IsState s st
-is-state {st = st} a = record { size = a .size; codes = byte-none 11 0 st .0 (a .codes) }
-
-pub accepted-state : {s st : List ℕ} → IsState s st → AcceptedState s st
-accepted-state {st = st} a = record { size = a .size; codes = byte-none 11 0 st .1 (a .codes) }
-
 module _ {s : List ℕ} {i o k : ℕ} {st rows outputs : List ℕ} (g : Lent s i o k st rows outputs) where
+  abbrev begin : List ℕ
+  begin = registersIn s st
+
   image : Checked s
   image = check-none s .0 (g .accepted)
 
   row-bytes-are : length rows ≡ k * sizesOf s .inputs
   row-bytes-are = g .row-bytes ∙ ap (λ m. k * m) (g .inputs)
 
-  good-ready : Codes rows → Ready s st (k * sizesOf s .inputs) rows
-  good-ready c = record { image = image; state = is-state (g .state); size = row-bytes-are; codes = c }
+  good-lent : Codes rows → calls.Lent s st (k * sizesOf s .inputs) rows
+  good-lent c = record { image = image; state = state-none s st .0 (g .state); size = row-bytes-are; codes = c }
 
-  pub run-good : Codes rows → runOf s st k rows outputs ≡ asRun st (cyclesOn s i k rows st)
+  pub run-good : Codes rows → runOf s st k rows outputs ≡ counting (asRun begin (cyclesOn s i k rows begin))
   run-good c =
-      run-accepted s st k rows outputs (run-none s st k rows outputs .1 (good-ready c, g .few, g .output-bytes ∙ ap (λ m. k * m) (g .each)))
-      ∙ ap (λ m. asRun st (cyclesOn s m k rows st)) (sym (g .inputs))
+      run-accepted s st k rows outputs (run-none s st k rows outputs .1 (good-lent c, g .few, g .output-bytes ∙ ap (λ m. k * m) (g .each)))
+      ∙ ap (λ m. counting (asRun begin (cyclesOn s m k rows begin))) (sym (g .inputs))
 
-  pub good-state : Codes rows → AcceptedState s (stateAfter st (cyclesOn s i k rows st))
-  good-state c = rw (g .inputs) (accepted-state (run-state k (good-ready c)))
+  good-registers : Codes rows → IsRegisters s (stateAfter begin (cyclesOn s i k rows begin))
+  good-registers c = rw (g .inputs) (run-registers k (lent-ready (good-lent c)))
+
+  -- the state with the register bytes after the good rows
+  pub good-state : {after : List ℕ} → Codes rows → after ≡ withCount (stateAfter begin (cyclesOn s i k rows begin))
+      → (registersIn s after ≡ stateAfter begin (cyclesOn s i k rows begin)) × AcceptedState s after
+  good-state c e = let r = good-registers c in (rw e (registers-back r), rw e (state-none s _ .1 (counted-state r)))
 
   pub run-bad : {r : Refusal} → badByte (ltb 3) 13 0 rows ≡ some r → runOf s st k rows outputs ≡ record { answer = refused r; state = st; outputs = outputs }
   unfolding runRefusal
   run-bad {r} h =
       run-refused s st k rows outputs r
-      (rw (g .accepted, le-ltb 4096 k (g .few), length-none 10 _ st .1 (g .state .size), g .state .codes, length-none 12 _ rows .1 row-bytes-are, h))
+      (rw (g .accepted, le-ltb 4096 k (g .few), g .state, length-none 12 _ rows .1 row-bytes-are, h))
 
-  pub outputs-size : (n : ℕ) → length (outputsOf (cyclesOn s i n rows st)) ≡ n * o
-  outputs-size n = outputs-of-length plain (netsOf s) i n rows st ∙ ap (λ m. n * m) (sym (g .each ∙ image .outputs))
+  pub outputs-size : (n : ℕ) → length (outputsOf (cyclesOn s i n rows begin)) ≡ n * o
+  outputs-size n = outputs-of-length plain (netsOf s) i n rows begin ∙ ap (λ m. n * m) (sym (g .each ∙ image .outputs))
 
 -- as the code has it
 module _ {s : List ℕ} {i o k : ℕ} {st rows outputs : List ℕ} (g : Lent s i o k st rows outputs)
@@ -71,7 +75,7 @@ module _ {s : List ℕ} {i o k : ℕ} {st rows outputs : List ℕ} (g : Lent s i
       (λ r h. let z : _≡_ {A = ℕ} 0 1 = cc (ap (λ (x : Ran). x .answer) (rw d at (e ∙ run-bad g h))) in absurd (omega arith))
 
   refused-bad : {r : Refusal} → a ≡ Refused r → badByte (ltb 3) 13 0 rows ≡ some r
-  unfolding asRun
+  unfolding asRun counting
   refused-bad {r} d =
       either-way (badByte (ltb 3) 13 0 rows)
       (λ h. let z : _≡_ {A = ℕ} 0 1 = cc (ap (λ (x : Ran). x .answer) (rw d at (e ∙ run-good g (byte-none 13 0 rows .0 h)))) in absurd (omega arith))
@@ -79,19 +83,19 @@ module _ {s : List ℕ} {i o k : ℕ} {st rows outputs : List ℕ} (g : Lent s i
 
   -- all rows are good
   pub all-run : {f : code.FirstFlow} → a ≡ Done f → RowsTaken s i o k st rows (record { good = k; outcome = outcomes.Done }) after filled
-  unfolding asRun
+  unfolding asRun counting
   all-run d =
       let c = done-good d in
       let run = e ∙ run-good g c in
-      let state = ap (λ (x : Ran). x .state) run in
+      let state = good-state g c (ap (λ (x : Ran). x .state) run) in
       let outputs-are = ap (λ (x : Ran). x .outputs) run in
       let size : length filled ≡ k * o = ap length outputs-are ∙ outputs-size g k in
       record {
         good = sym (all-good i k rows c .0);
         few = omega arith;
         refusal = sym (all-good i k rows c .1);
-        state = state;
-        accepts = rw state (good-state g c);
+        registers = state .0;
+        accepts = state .1;
         outputs = take-all (k * o) filled (omega arith) ∙ outputs-are;
       }
 
@@ -147,24 +151,24 @@ module _ {s : List ℕ} {i o k : ℕ} {st rows outputs : List ℕ} (g : Lent s i
     codes : Codes (take (good * i) rows)
     codes = rw good-is (good-codes i k rows)
 
-    cycles-are : cyclesOn s i good (take (good * i) rows) after ≡ cyclesOn s i good rows st
-    cycles-are = rw same-state (cycles-take plain (netsOf s) i good rows st)
+    cycles-are : cyclesOn s i good (take (good * i) rows) (registersIn s after) ≡ cyclesOn s i good rows (registersIn s st)
+    cycles-are = rw same-state (cycles-take plain (netsOf s) i good rows (registersIn s st))
 
     pub good-run : (b : RunAnswer) {after′ filled′ : List ℕ} → ran b after′ filled′ ≡ runOf s after good (take (good * i) rows) (take (good * o) filled)
         → (out : Outcome) → refusalIn out ≡ some (refusal (r .number) (r .place - good * i))
         → RowsTaken s i o k st rows (record { good = good; outcome = out }) after′ (filled′ ++ drop (good * o) filled)
-    unfolding asRun
+    unfolding asRun counting
     good-run b {after′} {filled′} f out draws =
         let run = f ∙ run-good part codes in
-        let state : after′ ≡ stateAfter st (cyclesOn s i good rows st) = ap (λ (x : Ran). x .state) run ∙ rw (cycles-are, same-state) in
-        let outputs-are : filled′ ≡ outputsOf (cyclesOn s i good rows st) = ap (λ (x : Ran). x .outputs) run ∙ rw cycles-are in
+        let state = good-state part codes (ap (λ (x : Ran). x .state) run) in
+        let outputs-are : filled′ ≡ outputsOf (cyclesOn s i good rows (registersIn s st)) = ap (λ (x : Ran). x .outputs) run ∙ rw cycles-are in
         let size : length filled′ ≡ good * o = ap length outputs-are ∙ outputs-size g good in
         let at : r .place - good * i ≡ row .at = omega (arith, ap (λ (x : Refusal). x .place) is, ap (λ m. m * i) good-is) in
         record {
           good = good-is;
           few = omega (arith, good-fewer);
           refusal = draws ∙ ap₂ (λ n m. some (refusal n m)) (ap (λ (x : Refusal). x .number) is) at ∙ sym (row .draws);
-          state = state;
-          accepts = rw (ap (λ (x : Ran). x .state) run) (good-state part codes);
+          registers = state .0 ∙ rw (cycles-are, same-state);
+          accepts = state .1;
           outputs = take-at filled′ (drop (good * o) filled) (good * o) size ∙ outputs-are;
         }

@@ -2,12 +2,14 @@
 use Prim.Native.Nat.{_*_, _/_, _≤_}
 use native.Mathlib.Omega.{arith}
 use native.Mathlib.Nat.{div-mul-le-self}
-use mathlib.Core.Path.{sym, ap, _∙_}
+use mathlib.Core.Path.{_≡_, sym, ap, _∙_}
+use lib.ListN.{length, take}
 use borrow.Author.Needs.{needs}
 use Rattle.gates.specs.Kinds.{INPUT, REG, OUT}
 use Rattle.image.specs.declared.image.Sizes.{Sizes}
 use Rattle.checking.proofs.Checked.{Checked, check-none, few-of}
-use Rattle.text.proofs.Buffers.{zeros-length, zeros-room, front-length}
+use Rattle.cycle.specs.State.{stateLength}
+use Rattle.text.proofs.Buffers.{zeros, zeros-length, zeros-room, front-length}
 use Rattle.listing.proofs.Buffers.{rows-most, row-room}
 use Rattle.listing.proofs.Listings.{blank-room, end-blank, end-only, listing-rows}
 use Rattle.listing.proofs.listing.list_accepted.Statement.{statement}
@@ -30,25 +32,34 @@ module _ (c : tie.Start) where
   rows : 65536 / c .args .z .inputs * c .args .z .inputs ≤ 65536
   rows = div-mul-le-self 65536 (c .args .z .inputs)
 
+-- the state has its length
+module _ (c : tie.After-state-length) where
+  abbrev start : tie.Start
+  start = c .before .before .before .before
+
+  few-state : c .state-length .result ≤ 8194
+  few-state = omega (arith, c .state-length .ensures, few-registers start)
+
+  state-size : length (take (c .state-length .result) (zeros 8194)) ≡ stateLength (start .args .z)
+  state-size = front-length 8194 (c .state-length .result) few-state ∙ c .state-length .ensures
+
 print-end-requires : tie.Need-print-end-requires
 print-end-requires c κs = let first = c .begun .ensures in blank-room _ (c .begun .result) (first .1) (first .2) (search needs)
 
 mul-n : tie.Need-mul-n
-mul-n c = record { fits = omega (arith, rows (c .before .before .before .before .before)) }
+mul-n c = record { fits = omega (arith, rows (start (c .before .before))) }
 
 take-input-requires : tie.Need-take-input-requires
 take-input-requires c κs =
-    let some = c .before .before .before .before .before .before .before in
-    let start = some .before .before .before in
-    let inputs = start .args .z .inputs in
-    let outputs = start .args .z .outputs in
-    let registers = start .args .z .registers in
-    let reads = some .if1 .left in
-    let z = start .pre .1 in (
-      (start .pre .0, ap (λ (z : Sizes). z .inputs) z, omega (arith, reads)),
+    let long = c .before .before .before .before .before .before .before in
+    let begin = start long in
+    let z = begin .args .z in
+    let sizes = begin .pre .1 in
+    let some = long .before .if1 .left in (
+      (begin .pre .0, ap (λ (z : Sizes). z .inputs) sizes, omega (arith, some)),
       (
-        (front-length 8192 outputs (few-outputs start) ∙ ap (λ (z : Sizes). z .outputs) z, front-length 8192 registers (few-registers start) ∙ ap (λ (z : Sizes). z .registers) z, zeros-room 65536 (omega arith)),
-        (row-room 65536 inputs (omega (arith, reads)) (omega (arith, few-inputs start)), rows-most 65536 inputs, search needs),
+        (front-length 8192 (z .outputs) (few-outputs begin) ∙ ap (λ (z : Sizes). z .outputs) sizes, state-size long ∙ ap stateLength sizes, zeros-room 65536 (omega arith)),
+        (row-room 65536 (z .inputs) (omega (arith, some)) (omega (arith, few-inputs begin)), rows-most 65536 (z .inputs), search needs),
       ),
     )
 
@@ -64,10 +75,11 @@ returns c =
 returns-2 : tie.Need-returns-2
 returns-2 c =
     let taken = c .before .before .before .before in
-    let some = taken .before .before .before .before .before .before .before .before in
-    let start = some .before .before .before in (
-      λ h. absurd (some .if1 .left h),
-      λ h. listing-rows (start .args .image .now) (start .args .text .now) (start .pre .0) _ (start .pre .1) (some .if1 .left) (front-length 8192 (start .args .z .registers) (few-registers start)) (taken .take-input .ensures h),
+    let long = taken .before .before .before .before .before .before .before .before in
+    let begin = start long in
+    let some = long .before .if1 .left in (
+      λ h. absurd (some h),
+      λ h. listing-rows (begin .args .image .now) (begin .args .text .now) (begin .pre .0) _ (begin .pre .1) some (state-size long) (taken .take-input .ensures h),
     )
 
 pub list-accepted-spec : {M : Type 1} → statement M
@@ -77,14 +89,15 @@ list-accepted-spec =
     (λ c κs. search needs)
     print-end-requires
     returns
+    (λ c κs. omega (arith, few-registers (c .before .before .before)))
     (λ c. search needs)
     mul-n
-    (λ c. zeros-room 8192 (few-outputs (c .before .before .before .before .before)))
-    (λ c. let start = c .before .before .before .before .before .before in sym (front-length 8192 (start .args .z .outputs) (few-outputs start)))
-    (λ c. zeros-room 8192 (few-registers (c .before .before .before .before .before .before)))
-    (λ c. let start = c .before .before .before .before .before .before .before in sym (front-length 8192 (start .args .z .registers) (few-registers start)))
+    (λ c. zeros-room 8192 (few-outputs (start (c .before .before))))
+    (λ c. let begin = start (c .before .before .before) in sym (front-length 8192 (begin .args .z .outputs) (few-outputs begin)))
+    (λ c. zeros-room 8194 (few-state (c .before .before .before)))
+    (λ c. let long = c .before .before .before .before in sym (front-length 8194 (long .state-length .result) (few-state long)))
     (λ c. sym (zeros-length 65536))
-    (λ c. zeros-room 65536 (rows (c .before .before .before .before .before .before .before .before)))
-    (λ c. let start = c .before .before .before .before .before .before .before .before .before in sym (front-length 65536 (65536 / start .args .z .inputs * start .args .z .inputs) (rows start)))
+    (λ c. zeros-room 65536 (rows (start (c .before .before .before .before .before))))
+    (λ c. let begin = start (c .before .before .before .before .before .before) in sym (front-length 65536 (65536 / begin .args .z .inputs * begin .args .z .inputs) (rows begin)))
     take-input-requires
     returns-2)

@@ -7,7 +7,7 @@ use borrow.Author.Needs.{needs}
 use Rattle.gates.specs.Kinds.{INPUT, REG, OUT}
 use Rattle.image.specs.declared.image.Sizes.{Sizes}
 use Rattle.checking.proofs.Checked.{Checked, check-none, few-of}
-use Rattle.cycle.specs.Calls.{stateLength}
+use Rattle.cycle.specs.State.{stateLength}
 use Rattle.text.proofs.Buffers.{zeros-length, zeros-room, front-length}
 use Rattle.pages.proofs.AllTurns.{printed-none, at-once}
 use Rattle.pages.proofs.Room.{outputs-room, page-room}
@@ -21,6 +21,9 @@ module _ (c : tie.Start) where
   few-inputs : 64 * c .args .z .inputs ≤ 524288
   few-inputs = omega (arith, ap (λ (z : Sizes). z .inputs) (c .pre .1), image .inputs, few-of image INPUT)
 
+  few-registers : c .args .z .registers ≤ 8192
+  few-registers = omega (arith, ap (λ (z : Sizes). z .registers) (c .pre .1), image .registers, few-of image REG)
+
   few-outputs : c .args .z .outputs ≤ 8192
   few-outputs = omega (arith, ap (λ (z : Sizes). z .outputs) (c .pre .1), image .outputs, few-of image OUT)
 
@@ -30,7 +33,7 @@ module _ (c : tie.After-state-length) where
   start = c .before .before .before .before
 
   few-state : c .state-length .result ≤ 8194
-  few-state = omega (arith, c .state-length .ensures, ap (λ (z : Sizes). z .registers) (start .pre .1), image start .registers, few-of (image start) REG)
+  few-state = omega (arith, c .state-length .ensures, few-registers start)
 
 returns : tie.Need-returns
 returns c h =
@@ -62,7 +65,7 @@ print-accepted-spec =
     tie.close
     (tie.spec
     returns
-    (λ c κs. search needs)
+    (λ c κs. omega (arith, few-registers (c .before .before .before)))
     (λ c. record { fits = omega (arith, few-inputs (start (c .before))) })
     (λ c. zeros-room 8192 (few-outputs (start (c .before))))
     (λ c. let start = start (c .before .before) in sym (front-length 8192 (start .args .z .outputs) (few-outputs start)))

@@ -8,7 +8,7 @@ use lib.ListN.{length}
 use borrow.Author.Needs.{needs}
 use borrow.Author.Tests.{ltb-true}
 use Rattle.checking.proofs.Checked.{check-none}
-use Rattle.pages.proofs.AllTurns.{came-begins, Holds, holds-on, holds-few, powered, starts-accepted, goes-on, neither-of}
+use Rattle.pages.proofs.AllTurns.{came-begins, Holds, holds-on, holds-few, powered, goes-on, neither-of}
 use Rattle.pages.proofs.printing.take_input.Statement.{statement}
 use Rattle.pages.proofs.printing.take_input.Tie as tie
 
@@ -46,11 +46,11 @@ loop-holds c =
                   inputs = pre .0 .1;
                   some = pre .0 .2;
                   listed = listed .list-nets .ensures;
-                  state = starts-accepted (pre .0 .0) begins;
+                  state = begins .0;
                   output-bytes = omega (arith, same, pre .1 .0 .2);
                   room = omega (arith, same, pre .1 .1 .1);
                 };
-            came = came-begins _ begins refl refl;
+            came = came-begins _ (begins .1) refl refl;
           },
     )
 
