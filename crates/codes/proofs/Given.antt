@@ -1,11 +1,11 @@
--- Every refusal that a call gives has a number from 1 to 19, and a place below 2^32 where a record of pages has at most 2^32 bytes.
+-- Every refusal that a call gives has a number from 1 to 20, and a place below 2^32 where a record of pages has at most 2^32 bytes.
 use Prim.Native.Nat.{ℕ, _^_, _≤_, _<_, min}
 use native.Mathlib.Omega.{arith}
 use native.Mathlib.Nat.{mul-le-mul, min-le-right}
 use mathlib.Core.Path.{_≡_, refl}
 use mathlib.Core.List.{List}
 use mathlib.Core.Option.{Option, none, some}
-use lib.ListN.{length}
+use lib.ListN.{length, length-take}
 use Rattle.image.specs.declared.image.Net.{Net}
 use Rattle.image.specs.Image.{sizesOf, netsOf}
 use Rattle.image.proofs.Nets.{count-most}
@@ -22,7 +22,7 @@ use Rattle.claims.proofs.Promised.{promised}
 
 pub record Tabled (number place : ℕ) : Type 0 where
   pub some-number : 1 ≤ number
-  pub most : number ≤ 19
+  pub most : number ≤ 20
   pub low : place < 2 ^ 32
 
 -- there are at most 8,192 registers, and as many inputs
@@ -46,7 +46,7 @@ bad-net (table.value h k m) l = record { some-number = omega arith; most = omega
 bad-net (table.unlisted h k m o) l = record { some-number = omega arith; most = omega arith; low = l }
 
 -- with place 0
-plain : {number : ℕ} → 1 ≤ number → number ≤ 19 → Tabled number 0
+plain : {number : ℕ} → 1 ≤ number → number ≤ 20 → Tabled number 0
 plain l m = record { some-number = l; most = m; low = omega arith }
 
 bad-image : {s : List ℕ} {number place : ℕ} → BadImage s number place → Tabled number place
@@ -60,7 +60,9 @@ bad-image (table.miscounted h k m) = plain (omega arith) (omega arith)
 bad-lent : {s : List ℕ} {rowBytes filled : ℕ} {st rows buffer : List ℕ} {number place : ℕ} → Few s → rowBytes ≤ 2 ^ 32
     → BadLent s rowBytes filled st rows buffer number place → Tabled number place
 bad-lent f l (table.state-size h) = plain (omega arith) (omega arith)
-bad-lent f l (table.state-byte e h) = record { some-number = omega arith; most = omega arith; low = omega (arith, h .below, f .registers) }
+bad-lent {s} {st = st} f l (table.state-byte e h) =
+    record { some-number = omega arith; most = omega arith; low = omega (arith, h .below, length-take (sizesOf s .registers) st, f .registers) }
+bad-lent f l (table.state-count e h k) = plain (omega arith) (omega arith)
 bad-lent f l (table.row-size h k) = plain (omega arith) (omega arith)
 bad-lent f l (table.row-byte a e h) = record { some-number = omega arith; most = omega arith; low = omega (arith, h .below) }
 bad-lent f l (table.buffer-size h k m) = plain (omega arith) (omega arith)

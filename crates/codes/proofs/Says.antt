@@ -4,6 +4,8 @@ use native.Mathlib.Omega.{arith}
 use mathlib.Core.Path.{_≡_, refl, sym, ap, _∙_}
 use mathlib.Core.List.{List}
 use mathlib.Core.Option.{Option, none, some}
+use mathlib.Core.Bool.{cond}
+use lib.Dec.{ltb}
 use borrow.Author.Tests.{lt-ltb, le-ltb, ne-eqb}
 use lib.ListN.{length, List·getD-eq-default}
 use Rattle.gates.specs.Rules.{gateByte}
@@ -13,7 +15,8 @@ use Rattle.refusals.specs.declared.answer.Refusal.{Refusal}
 use Rattle.refusals.proofs.Refusals.{length-none}
 use Rattle.checking.proofs.Checked.{check-none}
 use Rattle.cycle.specs.Cycle.{Rules, plain, Verdict, clear, flow, cyclesOf, FirstFlow, firstFlow}
-use Rattle.cycle.specs.Calls.{Answer, done, refused, asStep, asRun, stepRefusal, stepOf, runOf}
+use Rattle.cycle.specs.State.{registersIn}
+use Rattle.cycle.specs.Calls.{Answer, done, refused, asStep, asRun, counting, stepRefusal, stepOf, runOf}
 use Rattle.cycle.proofs.Calls.{either-way, step-accepted, step-refused, run-accepted}
 use Rattle.static_run.specs.StaticCalls.{static, staticRunOf}
 use Rattle.static_run.proofs.StaticRefused.{static-accepted}
@@ -71,7 +74,7 @@ step-unmarked s st row nets h =
     (λ e.
     let a = step-accepted s st row nets e in
     let v : done _ ≡ done clear = rw a at h in
-    rw a (none-marked (promised .verdicts gateByte (netsOf s) row st) cc))
+    rw a (none-marked (promised .verdicts gateByte (netsOf s) row (registersIn s st)) cc))
     (λ r e. absurd (not-refused (sym (rw (step-refused s st row nets r e) at h))))
 
 -- a verdict that is a flow
@@ -86,7 +89,7 @@ step-marked s st row nets i h =
     (λ e.
     let a = step-accepted s st row nets e in
     let v : done _ ≡ done (flow i) = rw a at h in
-    rw a (marked-at (promised .verdicts gateByte (netsOf s) row st) i cc))
+    rw a (marked-at (promised .verdicts gateByte (netsOf s) row (registersIn s st)) i cc))
     (λ r e. absurd (not-refused (sym (rw (step-refused s st row nets r e) at h))))
 
 flow-read : (n : ℕ) → n < 65535 → stepRead n ≡ done (flow n)
@@ -114,6 +117,10 @@ clear-answer rules s st k rows f is h e =
     let v : firstFlow 0 cs .verdict ≡ clear = cc in
     is ∙ rw (clear-cycle (promised .first-flows cs) v, cycles-length rules s k rows st)
 
+-- a number below 2^32 is no refusal
+below-read : {A : Type 0} (n : ℕ) (x y : A) → n < 2 ^ 32 → cond (ltb n (2 ^ 32)) x y ≡ x
+below-read n x y h = rw (lt-ltb n (2 ^ 32) h)
+
 -- the number of a clear run
 clear-read : (n : ℕ) → n < 2 ^ 32 → n % 65536 ≡ 65535 → runRead n ≡ done (record { cycle = n / 65536; verdict = clear })
 clear-read n l m = rw (lt-ltb n (2 ^ 32) l, m)
@@ -121,10 +128,10 @@ clear-read n l m = rw (lt-ltb n (2 ^ 32) l, m)
 run-is-clear : (s st : List ℕ) (k : ℕ) (rows outputs : List ℕ)
     → let n = answerCode firstFlowCode (runOf s st k rows outputs .answer) in
     n < 2 ^ 32 → n % 65536 ≡ 65535 → runOf s st k rows outputs .answer ≡ clearAfter k
-unfolding asRun
+unfolding asRun counting
 run-is-clear s st k rows outputs l m =
     let h = sym (reads .run s st k rows outputs) ∙ clear-read _ l m in
-    clear-answer plain s st k rows _ (rw (run-accepted s st k rows outputs (run-taken s st k rows outputs h))) h refl
+    clear-answer plain s (registersIn s st) k rows _ (rw (run-accepted s st k rows outputs (run-taken s st k rows outputs h))) h refl
 
 static-is-clear : (s st : List ℕ) (k : ℕ) (rows outputs : List ℕ)
     → let n = answerCode firstFlowCode (staticRunOf s st k rows outputs .answer) in
@@ -202,6 +209,9 @@ says =
       static-clear = λ s st st′ k codes rows outputs outputs′ p q l m n.
           promised .static-clear .run s st st′ k codes rows outputs outputs′ p q l (static-is-clear s st k codes outputs m n);
       static-powered-up = λ s a st h w. promised .static-clear .wakes s a st (sym (reads .static-power-up s a) ∙ ap outcomeRead h) w;
+      power-up-counted = λ s a h. promised .count-kept .power-up s a (sym (reads .power-up s a) ∙ ap outcomeRead h);
+      step-counted = λ s st row nets h. promised .count-kept .step s st row nets _ (sym (reads .step s st row nets) ∙ below-read _ _ _ h);
+      run-counted = λ s st k rows outputs h. promised .count-kept .run s st k rows outputs _ (sym (reads .run s st k rows outputs) ∙ below-read _ _ _ h);
       powered-up = λ s a st h w.
           let c = powered s a (sym (reads .power-up s a) ∙ ap outcomeRead h) in
           promised .unknown-start s (check-none s .1 (c .0)) .states a st (c .1) .0 w;

@@ -10,7 +10,8 @@ use Rattle.unknowns.specs.Filling.{staticByte}
 use Rattle.image.specs.Image.{sizesOf, netsOf}
 use Rattle.refusals.specs.declared.answer.Refusal.{Refusal}
 use Rattle.cycle.specs.Cycle.{Rule, Rules, plain, Verdict, clear, flow, cycleOf, cyclesOf, FirstFlow, firstOf, firstFlow}
-use Rattle.cycle.specs.Calls.{Answer, done, refused, asStep, asRun, stepRefusal, stepOf, runRefusal, runOf}
+use Rattle.cycle.specs.State.{registersIn}
+use Rattle.cycle.specs.Calls.{Answer, done, refused, asStep, asRun, counting, stepRefusal, stepOf, runRefusal, runOf}
 use Rattle.checking.proofs.Counting.{count-few}
 use Rattle.cycle.proofs.Calls.{either-way, step-accepted, step-refused, run-accepted, run-refused}
 use Rattle.doubled.specs.Doubled.{doubledNets}
@@ -79,18 +80,19 @@ step-answered s st row nets =
     either-way (stepRefusal s st row nets)
     (λ h.
     let a = promised .when-accepted .step s st row nets .0 h .0 in
-    rw (step-accepted s st row nets h) (gave (cycleOf plain (netsOf s) row st .verdict) (verdict-names gateByte s a row st)))
+    rw (step-accepted s st row nets h) (gave (cycleOf plain (netsOf s) row (registersIn s st) .verdict) (verdict-names gateByte s a row (registersIn s st))))
     (λ r h. let e = step-refused s st row nets r h in rw e (turned-back (tabled s (table.step st row nets) r (omega arith) (rw e))))
 
 pub run-answered : (s st : List ℕ) (k : ℕ) (rows outputs : List ℕ) → Answered (Among 4096 8192) (runOf s st k rows outputs .answer)
-unfolding asRun
+unfolding asRun counting
 run-answered s st k rows outputs =
     either-way (runRefusal s st k rows outputs)
     (λ h.
     let n = promised .when-accepted .run s st k rows outputs .0 h in
-    let a = flow-among gateByte s (n .0) (sizesOf s .inputs) k 0 rows st in
+    let rs = registersIn s st in
+    let a = flow-among gateByte s (n .0) (sizesOf s .inputs) k 0 rows rs in
     rw (run-accepted s st k rows outputs h)
-    (gave (firstFlow 0 (cyclesOf plain (netsOf s) (sizesOf s .inputs) k rows st)) (record { cycle = omega (arith, a .cycle, n .1); verdict = a .verdict })))
+    (gave (firstFlow 0 (cyclesOf plain (netsOf s) (sizesOf s .inputs) k rows rs)) (record { cycle = omega (arith, a .cycle, n .1); verdict = a .verdict })))
     (λ r h. let e = run-refused s st k rows outputs r h in rw e (turned-back (tabled s (table.run st k rows outputs) r (omega arith) (rw e))))
 
 pub static-run-answered : (s st : List ℕ) (k : ℕ) (rows outputs : List ℕ) → Answered (Among 4096 8192) (staticRunOf s st k rows outputs .answer)

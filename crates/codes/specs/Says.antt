@@ -10,12 +10,13 @@ use Rattle.cycle.specs.Calls.{powerUpOf, stepOf, runOf}
 use Rattle.figures.specs.Figures.{doubledSizeOf}
 use Rattle.doubling.specs.Doubling.{doubleOf}
 use Rattle.static_run.specs.StaticCalls.{staticPowerUpOf, staticRunOf}
-use Rattle.claims.specs.StaticBytes.{FilledBy, ToldBy, ClearToo}
+use Rattle.claims.specs.StaticBytes.{FilledBy, ToldState, ClearToo}
 use Rattle.claims.specs.Accepted.{AcceptedImage}
 use Rattle.claims.specs.Refused.{AnyCall, Refused}
 use Rattle.claims.specs.Verdicts.{MarkedOutput}
 use Rattle.claims.specs.PowerUp.{Wakes}
-use Rattle.claims.specs.InBytes.{SameMarks, StaysClear}
+use Rattle.claims.specs.CountKept.{CountStands}
+use Rattle.claims.specs.InBytes.{SameMarks, SameStates, StaysClear}
 use Rattle.claims.specs.NetBytes.{netOf}
 use Rattle.claims.specs.Page.{Shape, Heading, NetNumber, Sign, pages}
 use Rattle.paging.specs.Paging.{pageOf}
@@ -74,18 +75,24 @@ pub record NumbersSay : Type 0 where
   -- a run answers a number below 2^32 whose rest by 65,536 is 65,535: it is clear, and stays clear whatever the values of marked pins and marked registers
   pub run-clear :
       (s st st′ : List ℕ) (k : ℕ) (rows rows′ outputs outputs′ : List ℕ)
-      → SameMarks st st′ → SameMarks rows rows′ → length outputs ≡ length outputs′
+      → SameStates s st st′ → SameMarks rows rows′ → length outputs ≡ length outputs′
       → answerCode firstFlowCode (runOf s st k rows outputs .answer) < 2 ^ 32
       → answerCode firstFlowCode (runOf s st k rows outputs .answer) % 65536 ≡ 65535
       → StaysClear s k (runOf s st k rows outputs) (runOf s st′ k rows′ outputs′)
   -- a static run answers a number below 2^32 whose rest by 65,536 is 65,535: every run that fills its unknown bits is clear, and known values are its values
   pub static-clear :
       (s st st′ : List ℕ) (k : ℕ) (codes rows outputs outputs′ : List ℕ)
-      → ToldBy st st′ → FilledBy codes rows → length outputs ≡ length outputs′
+      → ToldState st st′ → FilledBy codes rows → length outputs ≡ length outputs′
       → answerCode firstFlowCode (staticRunOf s st k codes outputs .answer) < 2 ^ 32
       → answerCode firstFlowCode (staticRunOf s st k codes outputs .answer) % 65536 ≡ 65535
       → ClearToo k (staticRunOf s st k codes outputs) (runOf s st′ k rows outputs′)
   -- static power-up answers 0: every state with which the array may wake is as the codes tell that it leaves
-  pub static-powered-up : (s a st : List ℕ) → outcomeCode (staticPowerUpOf s a .refusal) ≡ 0 → Wakes s st → ToldBy (staticPowerUpOf s a .state) st
+  pub static-powered-up : (s a st : List ℕ) → outcomeCode (staticPowerUpOf s a .refusal) ≡ 0 → Wakes s st → ToldState (staticPowerUpOf s a .state) st
+  -- power-up answers 0, or a step or run a number below 2^32: the last two bytes of the state that it leaves are the number of marked registers
+  pub power-up-counted : (s a : List ℕ) → outcomeCode (powerUpOf s a .refusal) ≡ 0 → CountStands s (powerUpOf s a .state)
+  pub step-counted : (s st row nets : List ℕ) → answerCode verdictCode (stepOf s st row nets .answer) < 2 ^ 32 → CountStands s (stepOf s st row nets .state)
+  pub run-counted :
+      (s st : List ℕ) (k : ℕ) (rows outputs : List ℕ) → answerCode firstFlowCode (runOf s st k rows outputs .answer) < 2 ^ 32
+      → CountStands s (runOf s st k rows outputs .state)
   -- power-up answers 0: the states with which the array may wake, whatever its registers without a start hold, differ from the one that it leaves at most in the values of marked registers
-  pub powered-up : (s a st : List ℕ) → outcomeCode (powerUpOf s a .refusal) ≡ 0 → Wakes s st → SameMarks (powerUpOf s a .state) st
+  pub powered-up : (s a st : List ℕ) → outcomeCode (powerUpOf s a .refusal) ≡ 0 → Wakes s st → SameStates s (powerUpOf s a .state) st

@@ -16,7 +16,8 @@ use Rattle.image.specs.Pins.{pinNet}
 use Rattle.refusals.specs.declared.answer.Refusal.{Refusal}
 use Rattle.checking.specs.Check.{checkRefusal}
 use Rattle.cycle.specs.Cycle.{plain, pinByte, Verdict, clear, flow, outputsFrom, cycleOf}
-use Rattle.cycle.specs.Calls.{stateLength, done, powerUpRefusal, powerUpOf, stepOf, stepRefusal, runOf, runRefusal}
+use Rattle.cycle.specs.State.{stateLength, registersIn}
+use Rattle.cycle.specs.Calls.{done, powerUpRefusal, powerUpOf, stepOf, stepRefusal, runOf, runRefusal}
 use Rattle.doubled.specs.Doubled.{doubledSize, valueNet, doubledNets}
 use Rattle.figures.specs.Figures.{doubledSizeOf}
 use Rattle.doubling.specs.Doubling.{doubleRefusal, doubleOf}
@@ -125,7 +126,7 @@ two-rows : twoRows .outputs ≡ 2 ∷ 1 ∷ 0 ∷ 3 ∷ []
 two-rows = promised .examples .two-rows
 
 -- a step with inverted pins, each pin of each kind
-inverted-pins : (invertedStep .answer ≡ done (flow 12)) × (invertedStep .state ≡ 3 ∷ []) × (invertedStep .nets ≡ 2 ∷ 1 ∷ 0 ∷ 2 ∷ 3 ∷ 0 ∷ 2 ∷ 2 ∷ 2 ∷ 2 ∷ 3 ∷ 3 ∷ 3 ∷ [])
+inverted-pins : (invertedStep .answer ≡ done (flow 12)) × (invertedStep .state ≡ 3 ∷ 1 ∷ 0 ∷ []) × (invertedStep .nets ≡ 2 ∷ 1 ∷ 0 ∷ 2 ∷ 3 ∷ 0 ∷ 2 ∷ 2 ∷ 2 ∷ 2 ∷ 3 ∷ 3 ∷ 3 ∷ [])
 inverted-pins = let e = promised .examples .inverted in (rw e, rw e, rw e)
 
 -- CYCLES of an accepted image
@@ -138,8 +139,10 @@ module _ (s st : List ℕ) (h : checkRefusal s ≡ none) (l : length st ≡ stat
   powered-up : (powerUpOf s st .refusal ≡ none) × (length (powerUpOf s st .state) ≡ stateLength (sizesOf s))
   powered-up = let p = promised .power-up-starts s st h l in (p .done, p .size)
 
+-- of register bytes
+module _ (s st : List ℕ) (h : checkRefusal s ≡ none) (l : length st ≡ sizesOf s .registers) where
   sizes : (row : List ℕ) → length row ≡ sizesOf s .inputs
-      → let c = cycleOf plain (netsOf s) row st in (length (c .bytes) ≡ sizesOf s .nets) × (length (c .state) ≡ stateLength (sizesOf s))
+      → let c = cycleOf plain (netsOf s) row st in (length (c .bytes) ≡ sizesOf s .nets) × (length (c .state) ≡ sizesOf s .registers)
   sizes row m = let n = promised .net-bytes s row st h m l in (n .nets, n .registers)
 
   net-has : (row : List ℕ) → length row ≡ sizesOf s .inputs → (i : ℕ) → i < sizesOf s .nets
@@ -168,7 +171,7 @@ module _ (s row st bs : List ℕ) (i a b c : ℕ) (ha : pinNet a < i) (hb : pinN
   may-have = (HasByte.not ha, HasByte.and ha hb, HasByte.or ha hb, HasByte.xor ha hb, HasByte.mux ha hb hc, HasByte.out ha)
 
 -- CALLS
-step-nets : (s st row nets : List ℕ) → stepRefusal s st row nets ≡ none → stepOf s st row nets .nets ≡ cycleOf plain (netsOf s) row st .bytes
+step-nets : (s st row nets : List ℕ) → stepRefusal s st row nets ≡ none → stepOf s st row nets .nets ≡ cycleOf plain (netsOf s) row (registersIn s st) .bytes
 step-nets s st row nets h = rw (promised .step-is-cycle s st row nets h)
 
 run-outputs : (s st : List ℕ) (k : ℕ) (rows outputs : List ℕ) → runRefusal s st k rows outputs ≡ none

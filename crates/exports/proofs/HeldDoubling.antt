@@ -3,13 +3,14 @@ use Prim.Native.Nat.{ℕ, _+_, _*_, _/_, _%_, _≤_, _<_}
 use mathlib.Core.Path.{_≡_}
 use mathlib.Core.List.{List, [], _∷_, Forall₂}
 use mathlib.Core.Option.{none}
-use lib.ListN.{length, getD}
+use lib.ListN.{length, getD, drop}
 use Rattle.gates.specs.Kinds.{REG, OUT}
 use Rattle.image.specs.declared.image.Net.{Net}
 use Rattle.image.specs.Image.{sizesOf, net, netsOf}
 use Rattle.checking.specs.Check.{checkRefusal}
 use Rattle.cycle.specs.Cycle.{FirstFlow}
-use Rattle.cycle.specs.Calls.{stateLength, done, powerUpOf, Ran, runOf}
+use Rattle.cycle.specs.State.{stateLength, withCount, registersIn}
+use Rattle.cycle.specs.Calls.{done, powerUpOf, Ran, runOf}
 use Rattle.groups.specs.Groups.{groupLength, split}
 use Rattle.doubled.specs.Doubled.{valuePin, markPin, groupAt, doubledSize, valueNet, markNet, doubledNets}
 use Rattle.doubling.specs.Doubling.{doubledImage, doubleRefusal, doubleOf}
@@ -28,7 +29,7 @@ module _ (s buf : List ℕ) (h : checkRefusal s ≡ none) (few : doubledSize (ne
   -- demand 2, from any state and from power-up
   module _ (cs cs′ : List Call) where
     paired-cycles : (st : List ℕ)
-        → let d = doubleOf s buf .buffer in Forall₂ (Again d) (accepted s st cs) cs′ → Forall₂ (Shows s d) (cyclesIn (history s st cs)) (cyclesIn (history d (split st) cs′))
+        → let d = doubleOf s buf .buffer in Forall₂ (Again d) (accepted s st cs) cs′ → Forall₂ (Shows s d) (cyclesIn (history s st cs)) (cyclesIn (history d (withCount (split (registersIn s st))) cs′))
     paired-cycles st p = promised .demand2 s h few buf l .from-state st cs cs′ p .cycles
 
     powered-cycles : (a b : List ℕ) → let d = doubleOf s buf .buffer in
@@ -137,9 +138,11 @@ shown-in-two t j m = (t .values j m, t .marks j m)
 -- a run of the doubled netlist, from any state and from power-up
 module _ (s buf : List ℕ) (w : doubleOf s buf .refusal ≡ none) (k : ℕ) (rows rows′ outputs outputs′ : List ℕ) (f : FirstFlow)
     (r : InTwo rows rows′) (l : length outputs′ ≡ 2 * length outputs) where
-  run-in-two : (st st′ : List ℕ) → InTwo st st′ → runOf s st k rows outputs .answer ≡ done f
+  run-in-two :
+      (st st′ : List ℕ) → let d = doubleOf s buf .buffer in
+      InTwo (registersIn s st) (registersIn d st′) → drop (sizesOf d .registers) st′ ≡ 0 ∷ 0 ∷ [] → runOf s st k rows outputs .answer ≡ done f
       → ShowsInTwo (runOf s st k rows outputs) (runOf (doubleOf s buf .buffer) st′ k rows′ outputs′)
-  run-in-two st st′ t h = promised .doubled-shows s buf w .from-state st st′ t k rows rows′ outputs outputs′ f r l h
+  run-in-two st st′ t e h = promised .doubled-shows s buf w .from-state st st′ (record { registers = t; count = e }) k rows rows′ outputs outputs′ f r l h
 
   powered-in-two :
       (a a′ : List ℕ) → powerUpOf s a .refusal ≡ none → powerUpOf (doubleOf s buf .buffer) a′ .refusal ≡ none

@@ -1,7 +1,7 @@
 -- The promises about exact marks, used by their parts, as in Held; and what they say of a step, in the bytes that it leaves.
 use Prim.Native.Nat.{ℕ, _+_, _/_, _%_, _≤_, _<_}
 use mathlib.Core.Logic.{_↔_}
-use mathlib.Core.Path.{_≡_, refl, ap, sym, _∙_}
+use mathlib.Core.Path.{_≡_, refl, ap, sym, subst, _∙_}
 use mathlib.Core.List.{List, [], _∷_}
 use mathlib.Core.Option.{none}
 use lib.ListN.{getD}
@@ -9,16 +9,19 @@ use Rattle.gates.specs.Relations.{Agree}
 use Rattle.image.specs.Image.{sizesOf, net, netsOf}
 use Rattle.image.specs.Pins.{pinNet}
 use Rattle.checking.specs.Check.{checkRefusal}
+use Rattle.image.proofs.Pairs.{pairs-length}
+use Rattle.cycle.specs.State.{withCount, registersIn, AgreeStates}
 use Rattle.cycle.specs.Calls.{stepRefusal, stepOf}
+use Rattle.cycle.proofs.States.{state-registers, IsState, counted-agree}
 use Rattle.claims.specs.NetBytes.{netOf}
 use Rattle.claims.specs.History.{refusalOf}
 use Rattle.claims.specs.TwoRun.{steps}
-use Rattle.claims.specs.InBytes.{SameMarks}
+use Rattle.claims.specs.InBytes.{SameMarks, SameStates}
 use Rattle.claims.specs.Ways.{ways}
 use Rattle.claims.specs.Exactness.{byteOf, NoReconvergence, Change}
 use Rattle.claims.specs.ExactnessExamples.{ownXor, select, selectTree, delayed}
-use Rattle.claims.proofs.Accepted.{together}
-use Rattle.claims.proofs.Agreeing.{agree-refl, marks-agree, agree-marks}
+use Rattle.claims.proofs.Accepted.{together, is-state}
+use Rattle.claims.proofs.Agreeing.{agree-refl, marks-agree, agree-marks, marks-agree-states, agree-marks-states}
 use Rattle.claims.proofs.TwoRun.{same-refusal}
 use Rattle.claims.proofs.Examples.{checking}
 use Rattle.claims.proofs.ExactnessExamples.{counting}
@@ -35,54 +38,64 @@ ways-in s a j i h n = let w = promised .ways-counted s a j i h in (w .no-pin n, 
 ways-itself : (s : List ℕ) → checkRefusal s ≡ none → (i : ℕ) → i < sizesOf s .nets → ways s i i ≡ 1
 ways-itself s a i h = promised .ways-counted s a i i h .itself refl
 
--- A STEP. With another row and state, which differ from its own at most in the values of marked bytes, the value of net i is another one
+-- A STEP. With another row and state, which differ from its own at most in the values of marked bytes and registers, the value of net i is another one
 record OtherStep (s st row nets : List ℕ) (i : ℕ) : Type 0 where
   other-row : List ℕ
   other-state : List ℕ
   rows : SameMarks row other-row
-  states : SameMarks st other-state
+  states : SameStates s st other-state
   changed : getD (stepOf s other-state other-row nets .nets) i 0 % 2 ≡ getD (stepOf s st row nets .nets) i 0 % 2 → ⊥
 
 module _ (s st row nets : List ℕ) (a : stepRefusal s st row nets ≡ none) where
-  step-byte : (row′ st′ : List ℕ) → Agree row row′ → Agree st st′ → (i : ℕ) → getD (stepOf s st′ row′ nets .nets) i 0 ≡ byteOf s row′ st′ i
+  step-byte : (row′ st′ : List ℕ) → Agree row row′ → AgreeStates s st st′ → (i : ℕ) → getD (stepOf s st′ row′ nets .nets) i 0 ≡ byteOf s row′ (registersIn s st′) i
   unfolding refusalOf
   step-byte row′ st′ g k i = ap (λ o. getD (o .nets) i 0) (promised .step-is-cycle s st′ row′ nets (sym (same-refusal s k (steps g refl)) ∙ a))
 
-  own-byte : (i : ℕ) → getD (stepOf s st row nets .nets) i 0 ≡ byteOf s row st i
-  own-byte = step-byte row st (agree-refl row) (agree-refl st)
+  abbrev rs : List ℕ
+  rs = registersIn s st
+
+  own-byte : (i : ℕ) → getD (stepOf s st row nets .nets) i 0 ≡ byteOf s row rs i
+  own-byte = step-byte row st (agree-refl row) (record { registers = agree-refl rs; counts = refl })
+
+  whole : IsState s st
+  whole = is-state (promised .when-accepted .step s st row nets .0 a .1)
 
   -- net i, of which the condition on ways holds in the bytes of this step, is marked in them exactly if there is such another step
   module _ (i : ℕ) (l : i < sizesOf s .nets)
       (inputs : (j : ℕ) → netOf s j .kind ≡ 1 → getD (stepOf s st row nets .nets) j 0 / 2 ≡ 1 → ways s j i ≤ 1)
       (registers : (j : ℕ) → netOf s j .kind ≡ 2 → getD (stepOf s st row nets .nets) j 0 / 2 ≡ 1 → ways s j i ≤ 1) where
-    exact : (byteOf s row st i / 2 ≡ 1) ↔ Change s row st i
+    exact : (byteOf s row rs i / 2 ≡ 1) ↔ Change s row rs i
     exact =
         let w = promised .when-accepted .step s st row nets .0 a in
-        promised .exactness s row st (promised .when-accepted .check s .1 (w .0)) (w .2) (w .1) i l
+        promised .exactness s row rs (promised .when-accepted .check s .1 (w .0)) (w .2) (record { size = whole .registers .size; codes = w .1 .codes }) i l
         (record { inputs = λ j k m. inputs j k (rw (own-byte j) m); registers = λ j k m. registers j k (rw (own-byte j) m) })
 
     marked-changes : getD (stepOf s st row nets .nets) i 0 / 2 ≡ 1 → OtherStep s st row nets i
     marked-changes m =
         let d = exact .0 (rw (own-byte i) at m) in
+        let o = d .other-state in
+        let size = whole .registers .size in
+        let states : AgreeStates s st (withCount o) = subst (λ t. AgreeStates s t (withCount o)) (sym (whole .counted)) (counted-agree size (d .states)) in
+        let back : registersIn s (withCount o) ≡ o = state-registers o (sym (pairs-length (d .states)) ∙ size) in
         record {
           other-row = d .other-row;
-          other-state = d .other-state;
+          other-state = withCount o;
           rows = agree-marks (d .rows);
-          states = agree-marks (d .states);
-          changed = λ e. d .changed (rw (step-byte _ _ (d .rows) (d .states) i, own-byte i) at e);
+          states = agree-marks-states states;
+          changed = λ e. d .changed (rw (step-byte _ _ (d .rows) states i, own-byte i, back) at e);
         }
 
     changes-marked : OtherStep s st row nets i → getD (stepOf s st row nets .nets) i 0 / 2 ≡ 1
     changes-marked o =
         let w = promised .when-accepted .step s st row nets .0 a in
         let g = marks-agree (o .other-row) (together row (w .2 .codes)) (o .rows) in
-        let k = marks-agree (o .other-state) (together st (w .1 .codes)) (o .states) in
+        let k = marks-agree-states (o .other-state) (together rs (w .1 .codes)) (o .states) in
         rw (own-byte i)
         (exact .1 (record {
           other-row = o .other-row;
-          other-state = o .other-state;
+          other-state = registersIn s (o .other-state);
           rows = g;
-          states = k;
+          states = k .registers;
           changed = λ e. o .changed (rw (step-byte _ _ g k i, own-byte i) e);
         }))
 

@@ -3,14 +3,15 @@ use Prim.Native.Nat.{ℕ, _+_, _*_, _/_, _%_, _≤_, _<_}
 use mathlib.Core.Path.{_≡_, refl}
 use mathlib.Core.List.{List, [], _∷_, Forall₂, Forall₂·nil}
 use mathlib.Core.Option.{none}
-use lib.ListN.{length, getD}
+use lib.ListN.{length, getD, take, drop}
 use Rattle.gates.specs.Kinds.{REG, OUT}
 use Rattle.gates.specs.Relations.{Agree}
-use Rattle.image.specs.Image.{sizesOf, netsOf}
+use Rattle.image.specs.Image.{sizesOf, netsOf, u16}
 use Rattle.refusals.specs.declared.answer.Refusal.{Refusal}
 use Rattle.checking.specs.Check.{checkRefusal}
 use Rattle.cycle.specs.Cycle.{Verdict}
-use Rattle.cycle.specs.Calls.{stateLength, done, powerUpOf, Stepped, stepOf, stepRefusal, Ran, runOf}
+use Rattle.cycle.specs.State.{stateLength, markedCount, withCount, registersIn, AgreeStates}
+use Rattle.cycle.specs.Calls.{done, powerUpOf, Stepped, stepOf, stepRefusal, Ran, runOf}
 use Rattle.cycle.proofs.Calls.{step-accepted}
 use Rattle.groups.specs.Groups.{split}
 use Rattle.doubled.specs.Doubled.{doubledSize}
@@ -20,7 +21,7 @@ use Rattle.claims.specs.PowerUp.{WakesWith, unknown-0, unknown-1, Wakes}
 use Rattle.claims.specs.History.{Call, step, run, CallResult, callResult, accepted, history, cyclesIn, TurnedBack, AllFinished, Made, AllMade}
 use Rattle.claims.specs.Pairing.{Again, shown}
 use Rattle.claims.specs.TwoRun.{Matched, SameCycle, SameCall, turned-back, finished, SameCalls, SameShown, SameDoubled}
-use Rattle.claims.specs.InBytes.{fromPowerUp, clearAfter, SameMarks, StaysClear}
+use Rattle.claims.specs.InBytes.{fromPowerUp, clearAfter, SameMarks, SameStates, StaysClear}
 use Rattle.claims.proofs.History.{made-step, made-is}
 use Rattle.claims.proofs.Agreeing.{agree-marks}
 use Rattle.claims.proofs.Promised.{promised}
@@ -43,16 +44,25 @@ step-cycle s st row nets h = rw (made-step s st row nets h, step-accepted s st r
 
 -- TWO RUNS. Of a list of two calls, the second is made from the states that the first left
 second-call : {s st st′ : List ℕ} {c c′ d d′ : Call} → SameCalls s st st′ (c ∷ c′ ∷ []) (d ∷ d′ ∷ [])
-    → SameCall (callResult s (callResult s st c .state) c′) (callResult s (callResult s st′ d .state) d′)
+    → SameCall s (callResult s (callResult s st c .state) c′) (callResult s (callResult s st′ d .state) d′)
 second-call (SameCalls.cons p q t a (SameCalls.cons p′ q′ t′ a′ n)) = rw (← (made-is p), ← (made-is q), ← (made-is p′), ← (made-is q′)) t′
 
-call-parts : {m n : CallResult} {A : Type 0} → SameCall m n → ((r : Refusal) → TurnedBack r (m .answer) → TurnedBack r (n .answer) → A)
-    → (m .answer ≡ n .answer → Agree (m .buffer) (n .buffer) → Forall₂ SameCycle (m .cycles) (n .cycles) → A) → A
+call-parts : {s : List ℕ} {m n : CallResult} {A : Type 0} → SameCall s m n → ((r : Refusal) → TurnedBack r (m .answer) → TurnedBack r (n .answer) → A)
+    → (m .answer ≡ n .answer → Agree (m .buffer) (n .buffer) → Forall₂ (SameCycle s) (m .cycles) (n .cycles) → A) → A
 call-parts (turned-back r t u) f g = f r t u
 call-parts (finished t e b c) f g = g e b c
 
-same-cycle : {o o′ : Stepped} → SameCycle o o′ → (o .answer ≡ o′ .answer) × Agree (o .nets) (o′ .nets) × Agree (o .state) (o′ .state)
-same-cycle c = (c .verdict, c .nets, c .state)
+-- states that agree: this of the register bytes, and the two bytes behind them equal, and nothing else
+to-agree : {s st st′ : List ℕ} → let r = sizesOf s .registers in Agree (take r st) (take r st′) → drop r st ≡ drop r st′ → AgreeStates s st st′
+to-agree a e = record { registers = a; counts = e }
+
+same-cycle : {s : List ℕ} {o o′ : Stepped} → let r = sizesOf s .registers in
+    SameCycle s o o′ → (o .answer ≡ o′ .answer) × Agree (o .nets) (o′ .nets) × Agree (take r (o .state)) (take r (o′ .state)) × (drop r (o .state) ≡ drop r (o′ .state))
+same-cycle c = (c .verdict, c .nets, c .state .registers, c .state .counts)
+
+-- after each call too
+after-call : {s st st′ : List ℕ} {c d : Call} → SameCalls s st st′ (c ∷ []) (d ∷ []) → AgreeStates s (callResult s st c .state) (callResult s st′ d .state)
+after-call (SameCalls.cons p q t a n) = rw (← (made-is p), ← (made-is q)) a
 
 same-shown : {s d : List ℕ} {o o′ : Stepped} → SameShown s d o o′ → (j : ℕ) → j < sizesOf s .outputs
     → (getD (shown d o) (2 * j + 1) 0 ≡ getD (shown d o′) (2 * j + 1) 0)
@@ -72,7 +82,7 @@ matched-steps = Matched.steps
 matched-runs : {k : ℕ} {r r′ b b′ : List ℕ} → Agree r r′ → length b ≡ length b′ → Matched (run k r b) (run k r′ b′)
 matched-runs = Matched.runs
 
-any-states : (s : List ℕ) (cs ds : List Call) → checkRefusal s ≡ none → Forall₂ Matched cs ds → (st st′ : List ℕ) → Agree st st′ → SameCalls s st st′ cs ds
+any-states : (s : List ℕ) (cs ds : List Call) → checkRefusal s ≡ none → Forall₂ Matched cs ds → (st st′ : List ℕ) → AgreeStates s st st′ → SameCalls s st st′ cs ds
 any-states s cs ds h m = promised .demand3 s h cs ds m .from-states
 
 powered-states : (s a b : List ℕ) (cs ds : List Call) → checkRefusal s ≡ none → Forall₂ Matched cs ds → length a ≡ stateLength (sizesOf s) → length b ≡ stateLength (sizesOf s)
@@ -96,8 +106,8 @@ module _ (s : List ℕ) (h : checkRefusal s ≡ none) (few : doubledSize (netsOf
       × AllMade d st cs′ (history d st cs′) (cyclesIn (history d st cs′)) × AllMade d st′ ds′ (history d st′ ds′) (cyclesIn (history d st′ ds′))
   both-made t = (t .finished .0, t .finished .1, t .made, t .made′)
 
-  doubled-lists : (st st′ : List ℕ) → Agree st st′ → Forall₂ (Again d) (accepted s st cs) cs′ → Forall₂ (Again d) (accepted s st′ ds) ds′
-      → SameDoubled s d (split st) (split st′) cs′ ds′
+  doubled-lists : (st st′ : List ℕ) → AgreeStates s st st′ → Forall₂ (Again d) (accepted s st cs) cs′ → Forall₂ (Again d) (accepted s st′ ds) ds′
+      → SameDoubled s d (withCount (split (registersIn s st))) (withCount (split (registersIn s st′))) cs′ ds′
   doubled-lists st st′ q = promised .demand3 s h cs ds m .doubled few buf l .from-states st st′ q cs′ ds′
 
   powered-lists :
@@ -110,14 +120,20 @@ module _ (s : List ℕ) (h : checkRefusal s ≡ none) (few : doubledSize (netsOf
 differ-at-most : {xs ys : List ℕ} → Agree xs ys → SameMarks xs ys
 differ-at-most = agree-marks
 
-steps-same : (s st st′ row row′ nets nets′ : List ℕ) (v : Verdict) → SameMarks st st′ → SameMarks row row′ → length nets ≡ length nets′
+states-differ : {s st st′ : List ℕ} → let r = sizesOf s .registers in SameMarks (take r st) (take r st′) → drop r st ≡ drop r st′ → SameStates s st st′
+states-differ m e = record { registers = m; counts = e }
+
+states-are : {s st st′ : List ℕ} → let r = sizesOf s .registers in SameStates s st st′ → SameMarks (take r st) (take r st′) × (drop r st ≡ drop r st′)
+states-are m = (m .registers, m .counts)
+
+steps-same : (s st st′ row row′ nets nets′ : List ℕ) (v : Verdict) → SameStates s st st′ → SameMarks row row′ → length nets ≡ length nets′
     → stepOf s st row nets .answer ≡ done v
     → let o = stepOf s st row nets in
     let o′ = stepOf s st′ row′ nets′ in
-    (o .answer ≡ o′ .answer) × SameMarks (o .nets) (o′ .nets) × SameMarks (o .state) (o′ .state)
+    (o .answer ≡ o′ .answer) × SameMarks (o .nets) (o′ .nets) × SameStates s (o .state) (o′ .state)
 steps-same s st st′ row row′ nets nets′ v q p l h = let t = promised .steps-agree s st st′ row row′ nets nets′ v q p l h in (t .answer, t .nets, t .state)
 
-stays-clear : {s : List ℕ} {k : ℕ} {o o′ : Ran} → StaysClear s k o o′ → (o′ .answer ≡ clearAfter k) × SameMarks (o .state) (o′ .state)
+stays-clear : {s : List ℕ} {k : ℕ} {o o′ : Ran} → StaysClear s k o o′ → (o′ .answer ≡ clearAfter k) × SameStates s (o .state) (o′ .state)
 stays-clear c = (c .answer, c .state)
 
 stays-unmarked : {s : List ℕ} {k : ℕ} {o o′ : Ran} → StaysClear s k o o′
@@ -130,10 +146,13 @@ either-value : WakesWith 2 2 × WakesWith 2 3
 either-value = (unknown-0, unknown-1)
 
 module _ (s : List ℕ) (h : checkRefusal s ≡ none) where
+  woken-count : (st : List ℕ) → Wakes s st → let r = sizesOf s .registers in (length st ≡ r + 2) × (drop r st ≡ u16 (markedCount (take r st)))
+  woken-count st w = (w .size, w .count)
+
   any-value : (st : List ℕ) → Wakes s st → (i : ℕ) → i < sizesOf s .nets → netOf s i .kind ≡ REG → WakesWith (netOf s i .b) (getD st (placeOf REG s i) 0)
   any-value st w = w .register
 
-  woken-states : (a st : List ℕ) → length a ≡ stateLength (sizesOf s) → SameMarks (powerUpOf s a .state) st → Wakes s st
+  woken-states : (a st : List ℕ) → length a ≡ stateLength (sizesOf s) → SameStates s (powerUpOf s a .state) st → Wakes s st
   woken-states a st l = promised .unknown-start s h .states a st l .1
 
   woken-calls : (st st′ : List ℕ) → Wakes s st → Wakes s st′ → (cs ds : List Call) → Forall₂ Matched cs ds → SameCalls s st st′ cs ds

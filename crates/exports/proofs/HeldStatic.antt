@@ -12,7 +12,8 @@ use Rattle.unknowns.specs.Covering.{Covers, CoversAll}
 use Rattle.image.specs.Image.{sizesOf, netsOf}
 use Rattle.checking.specs.Check.{checkRefusal}
 use Rattle.cycle.specs.Cycle.{pinByte, clear, flow, plain, Cycle, cyclesOf, outputsOf, stateAfter, firstFlow}
-use Rattle.cycle.specs.Calls.{done, powerUpOf, runRefusal, runOf}
+use Rattle.cycle.specs.State.{withCount, registersIn}
+use Rattle.cycle.specs.Calls.{done, powerUpOf, counting, runRefusal, runOf}
 use Rattle.static_run.specs.StaticCalls.{static, staticPowerUpRefusal, staticPowerUpOf, staticRunRefusal, staticRunOf}
 use Rattle.unknowns.proofs.Covered.{covers-itself, covers-trusted, covers-every}
 use Rattle.claims.specs.Accepted.{NoneAbove3, AcceptedImage}
@@ -21,8 +22,8 @@ use Rattle.claims.specs.PowerUp.{Wakes}
 use Rattle.claims.specs.InBytes.{clearAfter}
 use Rattle.claims.specs.Verdicts.{Judged}
 use Rattle.claims.specs.StaticNets.{StaticNets, StaticCycles, staticCounted}
-use Rattle.claims.specs.StaticRuns.{CoversCycle, SoundRun, RunPair, AllCovered, no-more, one-more, SoundRuns}
-use Rattle.claims.specs.StaticBytes.{FilledBy, ToldBy}
+use Rattle.claims.specs.StaticRuns.{CoversCycle, CoversState, SoundRun, RunPair, AllCovered, no-more, one-more, SoundRuns}
+use Rattle.claims.specs.StaticBytes.{FilledBy, ToldBy, ToldState}
 use Rattle.claims.proofs.Promised.{promised}
 
 -- A CODE covers a byte by these four conditions and no others
@@ -68,21 +69,28 @@ pins-read : (bs : List ℕ) (j : ℕ) → j < 32768 → (pinByte staticByte bs j
 pins-read bs j h = let p = promised .static-nets .pins in (p .upright bs j h, p .inverted bs j)
 
 -- ONE RUN
-same-refusal : (s st st′ : List ℕ) (k : ℕ) (codes rows b b′ : List ℕ) → CoversAll st st′ → CoversAll codes rows → length b ≡ length b′
+-- a static state is compared with the register bytes of a state, whose count stands behind them
+covers-state : {codes : List ℕ} (rs : List ℕ) → CoversAll codes rs → CoversState codes (withCount rs)
+covers-state rs h = record { registers = rs; covered = h; state = refl }
+
+covered-state : {codes st : List ℕ} (c : CoversState codes st) → CoversAll codes (c .registers) × (st ≡ withCount (c .registers))
+covered-state c = (c .covered, c .state)
+
+same-refusal : (s st st′ : List ℕ) (k : ℕ) (codes rows b b′ : List ℕ) → CoversState st st′ → CoversAll codes rows → length b ≡ length b′
     → staticRunRefusal s st k codes b ≡ runRefusal s st′ k rows b′
 same-refusal s st st′ k codes rows b b′ p q l = promised .static-sound s st st′ k codes rows b b′ p q l .refusal
 
-state-covered : (s st st′ : List ℕ) (k : ℕ) (codes rows b b′ : List ℕ) → CoversAll st st′ → CoversAll codes rows → length b ≡ length b′
-    → CoversAll (staticRunOf s st k codes b .state) (runOf s st′ k rows b′ .state)
+state-covered : (s st st′ : List ℕ) (k : ℕ) (codes rows b b′ : List ℕ) → CoversState st st′ → CoversAll codes rows → length b ≡ length b′
+    → CoversState (staticRunOf s st k codes b .state) (runOf s st′ k rows b′ .state)
 state-covered s st st′ k codes rows b b′ p q l = promised .static-sound s st st′ k codes rows b b′ p q l .state
 
 each-cycle : {c d : Cycle} → CoversCycle c d
     → CoversAll (c .bytes) (d .bytes) × (c .verdict ≡ clear → d .verdict ≡ clear) × CoversAll (c .outputs) (d .outputs) × CoversAll (c .state) (d .state)
 each-cycle h = (h .nets, h .verdict, h .outputs, h .state)
 
-accepted-run : (s st st′ : List ℕ) (k : ℕ) (codes rows b b′ : List ℕ) → CoversAll st st′ → CoversAll codes rows → length b ≡ length b′
+accepted-run : (s st st′ : List ℕ) (k : ℕ) (codes rows b b′ : List ℕ) → CoversState st st′ → CoversAll codes rows → length b ≡ length b′
     → staticRunRefusal s st k codes b ≡ none
-    → Forall₂ CoversCycle (cyclesOf static (netsOf s) (sizesOf s .inputs) k codes st) (cyclesOf plain (netsOf s) (sizesOf s .inputs) k rows st′)
+    → Forall₂ CoversCycle (cyclesOf static (netsOf s) (sizesOf s .inputs) k codes st) (cyclesOf plain (netsOf s) (sizesOf s .inputs) k rows (registersIn s st′))
     × CoversAll (staticRunOf s st k codes b .outputs) (runOf s st′ k rows b′ .outputs)
     × (staticRunOf s st k codes b .answer ≡ clearAfter k → runOf s st′ k rows b′ .answer ≡ clearAfter k)
 accepted-run s st st′ k codes rows b b′ p q l h =
@@ -102,13 +110,16 @@ told : {codes bytes : List ℕ} → ToldBy codes bytes → (length codes ≡ len
     × ((i : ℕ) → i < length codes → getD codes i 0 / 2 % 2 ≡ 0 → getD bytes i 0 / 2 ≡ 0)
 told t = (t .size, t .codes-are, t .bytes-are, t .values, t .marks)
 
-clear-too : (s st st′ : List ℕ) (k : ℕ) (codes rows b b′ : List ℕ) → FilledBy st st′ → FilledBy codes rows → length b ≡ length b′
+told-state : {codes st : List ℕ} (t : ToldState codes st) → ToldBy codes (t .registers) × (st ≡ withCount (t .registers))
+told-state t = (t .told, t .state)
+
+clear-too : (s st rs : List ℕ) (k : ℕ) (codes rows b b′ : List ℕ) → FilledBy st rs → FilledBy codes rows → length b ≡ length b′
     → staticRunOf s st k codes b .answer ≡ clearAfter k
-    → (runOf s st′ k rows b′ .answer ≡ clearAfter k)
-    × ToldBy (staticRunOf s st k codes b .outputs) (runOf s st′ k rows b′ .outputs) × ToldBy (staticRunOf s st k codes b .state) (runOf s st′ k rows b′ .state)
-clear-too s st st′ k codes rows b b′ p q l h =
+    → let o = runOf s (withCount rs) k rows b′ in
+    (o .answer ≡ clearAfter k) × ToldBy (staticRunOf s st k codes b .outputs) (o .outputs) × ToldState (staticRunOf s st k codes b .state) (o .state)
+clear-too s st rs k codes rows b b′ p q l h =
     let e = promised .static-clear in
-    let c = e .run s st st′ k codes rows b b′ (e .fills st st′ p) q l h in
+    let c = e .run s st (withCount rs) k codes rows b b′ (record { registers = rs; told = e .fills st rs p; state = refl }) q l h in
     (c .answer, c .outputs, c .state)
 
 -- two runs, one after the other, from a state with which the array wakes
@@ -123,8 +134,8 @@ clear-again s a st k k′ codes codes′ rows rows′ b b′ u u′ d w p q l m 
     e .run s _ _ k′ codes′ rows′ u u′ (first .state) q m g .answer
 
 -- POWER-UP
-woken : (s a a′ st : List ℕ) → length a ≡ length a′ → powerUpOf s a′ .refusal ≡ none → Wakes s st
-    → (staticPowerUpOf s a .refusal ≡ powerUpOf s a′ .refusal) × CoversAll (staticPowerUpOf s a .state) (powerUpOf s a′ .state) × CoversAll (staticPowerUpOf s a .state) st
+woken : (s a a′ st : List ℕ) → length a′ ≡ length a + 2 → powerUpOf s a′ .refusal ≡ none → Wakes s st
+    → (staticPowerUpOf s a .refusal ≡ powerUpOf s a′ .refusal) × CoversState (staticPowerUpOf s a .state) (powerUpOf s a′ .state) × CoversState (staticPowerUpOf s a .state) st
 woken s a a′ st l h w = let p = promised .static-wakes s a a′ l in (p .refusal, p .state h, p .wakes h st w)
 
 wakes-6 : (s st : List ℕ) → checkRefusal s ≡ none → length st ≡ sizesOf s .registers → (i : ℕ) → i < sizesOf s .nets → netOf s i .kind ≡ REG → netOf s i .b ≡ 2
@@ -143,20 +154,26 @@ second-run (SoundRuns.cons p (SoundRuns.cons q more)) = q
 
 -- any list, from power-up, from a state with which the array wakes, and from a covered state
 runs : (s a a′ st st′ : List ℕ) (r : RunPair) (rs : List RunPair) → CoversAll (r .codes) (r .rows) → length (r .outputs) ≡ length (r .outputs′) → AllCovered rs
-    → length a ≡ length a′ → powerUpOf s a′ .refusal ≡ none → Wakes s st → CoversAll st′ st
-    → SoundRuns s (staticPowerUpOf s a .state) (powerUpOf s a′ .state) (r ∷ rs) × SoundRuns s (staticPowerUpOf s a′ .state) st (r ∷ rs) × SoundRuns s st′ st (r ∷ rs)
-runs s a a′ st st′ r rs q l more m h w p =
+    → length a′ ≡ length a + 2 → powerUpOf s a′ .refusal ≡ none → staticPowerUpOf s a .refusal ≡ none → Wakes s st → CoversState st′ st
+    → SoundRuns s (staticPowerUpOf s a .state) (powerUpOf s a′ .state) (r ∷ rs) × SoundRuns s (staticPowerUpOf s a .state) st (r ∷ rs) × SoundRuns s st′ st (r ∷ rs)
+runs s a a′ st st′ r rs q l more m h g w p =
     let all = promised .static-runs s (r ∷ rs) (one-more q l more) in
-    (all .from-power-up a a′ m h, all .from-wakes a′ st h w, all .covered st′ st p)
+    (all .from-power-up a a′ m h, all .from-wakes a st g w, all .covered st′ st p)
 
 no-runs : AllCovered []
 no-runs = no-more
 
 -- WITHOUT UNKNOWNS
-plain-calls : (s : List ℕ) → ((i : ℕ) → netOf s i .kind ≡ REG → netOf s i .b ≡ 2 → ⊥) → (st : List ℕ) (k : ℕ) (rows outputs : List ℕ)
-    → ((i : ℕ) → i < length rows → getD rows i 0 ≤ 3) → ((i : ℕ) → i < length st → getD st i 0 ≤ 3)
-    → (staticPowerUpOf s st ≡ powerUpOf s st) × (staticRunOf s st k rows outputs ≡ runOf s st k rows outputs)
-plain-calls s n st k rows outputs p q = let c = promised .static-plain s in (c .power-up n st, c .run st k rows outputs p q)
+plain-power-up : (s : List ℕ) → ((i : ℕ) → netOf s i .kind ≡ REG → netOf s i .b ≡ 2 → ⊥) → (st st′ : List ℕ) → length st′ ≡ length st + 2
+    → (powerUpOf s st′ .refusal ≡ staticPowerUpOf s st .refusal)
+    × (staticPowerUpOf s st .refusal ≡ none → powerUpOf s st′ .refusal ≡ none → powerUpOf s st′ .state ≡ withCount (staticPowerUpOf s st .state))
+plain-power-up s n st st′ l = let c = promised .static-plain s in (c .power-up-refusal st st′ l, c .power-up n st st′)
+
+plain-run : (s rs : List ℕ) (k : ℕ) (rows outputs : List ℕ) → ((i : ℕ) → i < length rows → getD rows i 0 ≤ 3) → ((i : ℕ) → i < length rs → getD rs i 0 ≤ 3)
+    → let o = staticRunOf s rs k rows outputs in
+    runOf s (withCount rs) k rows outputs ≡ record { answer = o .answer; state = withCount (o .state); outputs = o .outputs }
+unfolding counting
+plain-run s rs k rows outputs p q = promised .static-plain s .run rs k rows outputs p q
 
 plain-cycles : (s : List ℕ) → checkRefusal s ≡ none → (k : ℕ) (rows st : List ℕ) → NoneAbove3 rows → NoneAbove3 st
     → cyclesOf static (netsOf s) (sizesOf s .inputs) k rows st ≡ cyclesOf plain (netsOf s) (sizesOf s .inputs) k rows st

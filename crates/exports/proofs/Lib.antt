@@ -2,6 +2,7 @@
 pub mod Held
 pub mod HeldDoubling
 pub mod HeldRuns
+pub mod HeldCounts
 pub mod HeldExact
 pub mod HeldBefore
 pub mod HeldStatic
