@@ -1,5 +1,9 @@
 /* The gate-level trust tracker, for C.
  *
+ * Since this version the state of tracker_power_up, tracker_step and tracker_run has R + 2 bytes, where it had R: behind the R register bytes, the last
+ * two are the number of marked registers, low byte first. These calls refuse a state of R bytes with 10, and a step and a run one whose last two bytes
+ * are wrong with 20. The state of the static calls still has R bytes.
+ *
  * The numbers of verdicts differ from those of the release before: clear is 65,535, where it was 0, and a flow is its net, where it was its net + 1.
  * Programs that read them by themselves have to be changed, and those that read them by the functions at the end of this file to be compiled anew.
  * A register with start 2 wakes with byte 2, an untrusted 0, where it woke with 0, and its mark register in the doubled netlist starts at 1.
@@ -25,10 +29,15 @@
  * byte 0 as 1, 1 as 0, 2 as 3 and 3 as 2. A REG reads its pin at the clock, so that its start is taken as it stands. An operand that is no pin must not
  * have the bit.
  *
- * A static power-up and a static run are on codes. A code is a byte 0 to 3, as above, or TRACKER_UNKNOWN_TRUSTED, 4, for a trusted bit whose value is not
- * known, or TRACKER_UNKNOWN_UNTRUSTED, 6, for an untrusted one. At each gate every pin that reads 4 is filled with 0 and with 1, and every pin that reads
- * 6 with 2 and with 3, independently of the other pins, also of those on the same net. The gate's value is known if all fillings agree in it, and it is
- * marked if any of them is. So an inverted pin and a NOT leave 4 and 6 as they are. A protected OUT with code 2, 3 or 6 is a flow; 4 is not marked.
+ * A state is the bytes of the R registers, in net order, and then their count: the number of marked ones, those with byte 2 or 3, as a u16, low byte
+ * first. A power-up sets the count, and every step and run keeps it, so that nobody has to look through the registers: tracker_marked_registers reads
+ * it. Who writes register bytes into a state writes its count too. tracker_state_length gives the length of a state, R + 2.
+ *
+ * A static power-up and a static run are on codes, and their state is the R codes alone. A code is a byte 0 to 3, as above, or TRACKER_UNKNOWN_TRUSTED,
+ * 4, for a trusted bit whose value is not known, or TRACKER_UNKNOWN_UNTRUSTED, 6, for an untrusted one. At each gate every pin that reads 4 is filled
+ * with 0 and with 1, and every pin that reads 6 with 2 and with 3, independently of the other pins, also of those on the same net. The gate's value is
+ * known if all fillings agree in it, and it is marked if any of them is. So an inverted pin and a NOT leave 4 and 6 as they are. A protected OUT with
+ * code 2, 3 or 6 is a flow; 4 is not marked.
  *
  * A record is the k x O output bytes of a run, cycle after cycle and each cycle in output order. tracker_page writes it as pages of text.
  *
@@ -67,7 +76,7 @@ enum { TRACKER_UNKNOWN_TRUSTED = 4, TRACKER_UNKNOWN_UNTRUSTED = 6 };
 /* The number of a clear verdict, which is no net's number. */
 enum { TRACKER_CLEAR = 65535 };
 
-/* The numbers of refusals: 1 to 17 as in document 01's table, and 18 and 19 of document 02. */
+/* The numbers of refusals: 1 to 17 as in document 01's table, and 18 to 20 of document 02. */
 enum {
     TRACKER_IMAGE_TOO_SHORT = 1,   /* under 8 bytes */
     TRACKER_NETS_OUT_OF_RANGE = 2, /* N is 0 or above 8,192 */
@@ -78,8 +87,8 @@ enum {
     TRACKER_UNLISTED_OPERAND = 7,  /* not 0; the place is the net */
     TRACKER_COUNTS = 8,            /* I, R or O is wrong */
     TRACKER_TOO_MANY_CYCLES = 9,   /* k above 4,096 */
-    TRACKER_STATE_LENGTH = 10,     /* not R */
-    TRACKER_STATE_BYTE = 11,       /* above 3; the place is its index */
+    TRACKER_STATE_LENGTH = 10,     /* not R + 2, or R for a static call */
+    TRACKER_STATE_BYTE = 11,       /* a register's byte is above 3; the place is its index */
     TRACKER_ROW_LENGTH = 12,       /* not I, or k x I for a run */
     TRACKER_ROW_BYTE = 13,         /* a row's byte, or a record's, is above 3; the place is its index */
     TRACKER_BUFFER_LENGTH = 14,    /* not N, or k x O for a run; or a record's length is not k x O */
@@ -87,34 +96,37 @@ enum {
     TRACKER_DOUBLED_LENGTH = 16,   /* the buffer is not as long as the doubled image */
     TRACKER_DOUBLED_REFUSED = 17,  /* the doubled image draws 1 to 8; never given */
     TRACKER_STATIC_BYTE = 18,      /* a state or row byte of a static run is 5 or above 6; the place is its index */
-    TRACKER_PAGE_LENGTH = 19       /* the page buffer is not exactly as long as the pages */
+    TRACKER_PAGE_LENGTH = 19,      /* the page buffer is not exactly as long as the pages */
+    TRACKER_STATE_COUNT = 20       /* the state's last two bytes are not the number of marked registers */
 };
 
 /* Whether an image is a netlist. Answers 0, or one of the refusals 1 to 8. */
 uint64_t tracker_check(const uint8_t *image, size_t image_length);
 
 /* Sets each of the R registers to its start, trusted, or, where none is given, to byte 2, an untrusted 0, so that a clear verdict holds whatever such a
- * register held. Answers 0, or one of the refusals 1 to 8 and 10. */
+ * register held; and the count, which is the number of registers without a start. What the R + 2 state bytes were is not looked at. Answers 0, or one of
+ * the refusals 1 to 8 and 10. */
 uint64_t tracker_power_up(const uint8_t *image, size_t image_length,
                           uint8_t *state, size_t state_length);
 
-/* One clock cycle on a row of I bytes: fills N net bytes and rewrites the R state bytes. Answers with the verdict, or one of the refusals 1 to 8 and
- * 10 to 14. */
+/* One clock cycle on a row of I bytes: fills N net bytes and rewrites the R + 2 state bytes, of which the last two count the registers as they are after
+ * the clock. Answers with the verdict, or one of the refusals 1 to 8, 10 to 14 and 20. 20 is tried directly after 11, before 12. */
 uint64_t tracker_step(const uint8_t *image, size_t image_length,
                       uint8_t *state, size_t state_length,
                       const uint8_t *row, size_t row_length,
                       uint8_t *nets, size_t nets_length);
 
-/* k clock cycles, at most 4,096, on k x I row bytes: fills k x O output bytes and leaves the last state. Answers with the first flow and its
- * cycle, or, with a clear verdict, cycle k; or with one of the refusals 1 to 14. */
+/* k clock cycles, at most 4,096, on k x I row bytes: fills k x O output bytes and leaves the last state, with the count of its own registers. Answers
+ * with the first flow and its cycle, or, with a clear verdict, cycle k; or with one of the refusals 1 to 14 and 20. 20 is tried directly after 11, before
+ * 12, also where k is 0, which changes no byte. */
 uint64_t tracker_run(const uint8_t *image, size_t image_length,
                      size_t k,
                      uint8_t *state, size_t state_length,
                      const uint8_t *rows, size_t rows_length,
                      uint8_t *outputs, size_t outputs_length);
 
-/* Sets each of the R registers to the code of its start: 0 or 1, or, where none is given, TRACKER_UNKNOWN_UNTRUSTED. Answers 0, or one of the refusals 1
- * to 8 and 10. */
+/* Sets each of the R registers to the code of its start: 0 or 1, or, where none is given, TRACKER_UNKNOWN_UNTRUSTED. The state has R bytes and no count.
+ * Answers 0, or one of the refusals 1 to 8 and 10. */
 uint64_t tracker_static_power_up(const uint8_t *image, size_t image_length,
                                  uint8_t *state, size_t state_length);
 
@@ -123,14 +135,15 @@ uint64_t tracker_static_power_up(const uint8_t *image, size_t image_length,
  *
  * A run fills the unknowns of a static run if it takes as many cycles, with 0 or 1 in its state and rows where the static run has 4, with 2 or 3 where
  * that has 6, chosen for each register and anew for each input in each cycle, and with the same byte everywhere else. If the static verdict is clear,
- * every such run is clear. Whatever the verdict, where an output or the state left has a code below 4, its value is the one that each such run has
- * there, and where a code is not marked, no such run has a mark there. So a static run from tracker_static_power_up speaks of all values that registers
- * without a start may wake with, and on rows of 4 and 6 of all rows with these marks. A flow may be one that no such run has, since each gate is filled
- * by itself. Where the state and the rows have bytes 0 to 3 alone, answer and bytes are those of tracker_run.
+ * every such run is clear. Whatever the verdict, where an output or the state left has a code below 4, its value is the one that each such run has there,
+ * and where a code is not marked, no such run has a mark there. So a static run from tracker_static_power_up speaks of all values that registers without
+ * a start may wake with, and on rows of 4 and 6 of all rows with these marks. A flow may be one that no such run has, since each gate is filled by
+ * itself. Where the state and the rows have bytes 0 to 3 alone, answer and bytes are those of tracker_run, but for the count, which a static state does
+ * not have.
  *
  * Or answers with one of the refusals 1 to 10, 12, 14 and 18. They are tried in this order: 1 to 10, 18 for the state, 12, 18 for the rows, and 14. So
- * 18 is for the state if the state has such a byte, and otherwise for the rows. A state with 4 or 6 is one for a further static run: tracker_step and
- * tracker_run refuse it. */
+ * 18 is for the state if the state has such a byte, and otherwise for the rows. The state left is one for a further static run: tracker_step and
+ * tracker_run take R + 2 bytes, and neither 4 nor 6 among the first R. */
 uint64_t tracker_static_run(const uint8_t *image, size_t image_length,
                             size_t k,
                             uint8_t *state, size_t state_length,
@@ -147,10 +160,11 @@ uint64_t tracker_doubled_kind(const uint8_t *image, size_t image_length,
                               size_t kind);
 
 /* Writes the doubled netlist, 8 + 7 x (its number of nets) bytes: tracker_image_length gives them for the answer of tracker_doubled_size. Register j
- * becomes two: 2j for its value, with the same start, and 2j + 1 for its mark, with start 1 where none is given and 0 otherwise. The values at outputs
- * 2j and 2j + 1, byte % 2, are the value and the mark of the source's output j. Marks within the doubled netlist say nothing of the source: register 2j
- * without a start wakes untrusted there. Of the pins that stand for a pin of the source, those on a value net are inverted where that pin is, and those
- * on a mark net never are. Answers 0, or one of the refusals 1 to 8 and 15 to 17. */
+ * becomes two: 2j for its value, with the same start, and 2j + 1 for its mark, with start 1 where none is given and 0 otherwise. The values at outputs 2j
+ * and 2j + 1, byte % 2, are the value and the mark of the source's output j. Marks within the doubled netlist say nothing of the source: register 2j
+ * without a start wakes untrusted there. Nor does the count in the doubled netlist's state of 2 x R + 2 bytes: it is of those marks. Of the pins that
+ * stand for a pin of the source, those on a value net are inverted where that pin is, and those on a mark net never are. Answers 0, or one of the
+ * refusals 1 to 8 and 15 to 17. */
 uint64_t tracker_double(const uint8_t *image, size_t image_length,
                         uint8_t *buffer, size_t buffer_length);
 
@@ -197,6 +211,15 @@ static inline int tracker_is_marked(uint8_t code) { return code / 2 % 2 == 1; }
 static inline size_t tracker_image_length(uint64_t nets)
 {
     return tracker_refusal(nets) != 0 ? 0 : (size_t)(8 + 7 * nets);
+}
+
+/* The bytes of a state of so many registers, for a power-up, a step or a run. For static calls they are as many as there are registers. */
+static inline size_t tracker_state_length(size_t registers) { return registers + 2; }
+
+/* How many registers are marked, as the last two bytes of a state say. It has to have these two. */
+static inline uint32_t tracker_marked_registers(const uint8_t *state, size_t state_length)
+{
+    return state[state_length - 2] + 256u * state[state_length - 1];
 }
 
 /* The bytes of all pages of k cycles, at most 4,096, and so many outputs: a page for each 64 cycles and for those that are left, and on each page a

@@ -31,6 +31,13 @@ static void print_bytes(const char *name, const uint8_t *bytes, size_t length)
         printf(" %u", (unsigned)bytes[i]);
 }
 
+/* A state, and how many of its registers are marked. */
+static void print_state(const uint8_t *state, size_t length)
+{
+    print_bytes("state", state, length);
+    printf(", %" PRIu32 " marked", tracker_marked_registers(state, length));
+}
+
 /* Prints a refusal and answers 1, or answers 0 where the call did not turn back. */
 static int print_refusal(uint64_t answer)
 {
@@ -64,27 +71,44 @@ static void print_first_flow(uint64_t answer)
     printf("%s %" PRIu32, tracker_flow(answer) < 0 ? ", cycle" : " in cycle", tracker_cycle(answer));
 }
 
+/* The bytes of the counter's state: one register, and the count of marked ones. A static state is the register alone. */
+enum { STATE_OF_COUNTER = 1 + 2, STATIC_STATE_OF_COUNTER = 1 };
+
 static void power_up_and_step(void)
 {
-    uint8_t state[1] = { 0 };
+    uint8_t state[STATE_OF_COUNTER] = { 0 };
     uint8_t nets[6] = { 0 };
     const uint8_t row[1] = { 2 };
 
     printf("power-up: ");
     print_done(tracker_power_up(counter, sizeof counter, state, sizeof state));
-    print_bytes("state", state, sizeof state);
+    print_state(state, sizeof state);
 
     printf("\nstep on 2: ");
     print_verdict(tracker_step(counter, sizeof counter, state, sizeof state, row, sizeof row, nets, sizeof nets));
     print_bytes("nets", nets, sizeof nets);
-    print_bytes("state", state, sizeof state);
+    print_state(state, sizeof state);
+    printf("\n");
+}
+
+/* The register alone is no state, nor is a marked register with a count of 0. */
+static void wrong_states(void)
+{
+    uint8_t state[STATE_OF_COUNTER] = { 3, 0, 0 };
+    uint8_t nets[6] = { 0 };
+    const uint8_t row[1] = { 0 };
+
+    printf("power-up of 1 byte for %zu: ", tracker_state_length(1));
+    print_done(tracker_power_up(counter, sizeof counter, state, 1));
+    printf("\nstep from 3 0 0: ");
+    print_verdict(tracker_step(counter, sizeof counter, state, sizeof state, row, sizeof row, nets, sizeof nets));
     printf("\n");
 }
 
 /* A call that turned back has no verdict, so it is not clear; nor is 0, the answer of a check. */
 static void answers_that_are_not_clear(void)
 {
-    uint8_t state[1] = { 0 };
+    uint8_t state[STATE_OF_COUNTER] = { 0 };
     uint8_t nets[6] = { 0 };
     const uint8_t row[1] = { 4 };
     uint64_t answer = tracker_step(counter, sizeof counter, state, sizeof state, row, sizeof row, nets, sizeof nets);
@@ -99,17 +123,17 @@ static void answers_that_are_not_clear(void)
 
 static void power_up_and_run(const uint8_t image[sizeof counter], uint8_t outputs[4])
 {
-    uint8_t state[1] = { 0 };
+    uint8_t state[STATE_OF_COUNTER] = { 0 };
     const uint8_t rows[4] = { 2, 0, 1, 0 };
 
     printf("power-up: ");
     print_done(tracker_power_up(image, sizeof counter, state, sizeof state));
-    print_bytes("state", state, sizeof state);
+    print_state(state, sizeof state);
 
     printf("\nrun on 2 0 1 0: ");
     print_first_flow(tracker_run(image, sizeof counter, 4, state, sizeof state, rows, sizeof rows, outputs, 4));
     print_bytes("outputs", outputs, 4);
-    print_bytes("state", state, sizeof state);
+    print_state(state, sizeof state);
     printf("\n");
 }
 
@@ -170,7 +194,7 @@ static void run_with_inverted_pin(void)
 /* Four cycles on codes from static power-up, each with the same code as its row. */
 static void static_power_up_and_run(const uint8_t image[sizeof counter], uint8_t code)
 {
-    uint8_t state[1] = { 0 };
+    uint8_t state[STATIC_STATE_OF_COUNTER] = { 0 };
     uint8_t outputs[4] = { 0 };
     uint8_t rows[4];
 
@@ -250,21 +274,24 @@ static size_t double_counter(uint8_t doubled[LARGEST_IMAGE])
     return length;
 }
 
+/* The doubled counter has two registers. */
+enum { STATE_OF_DOUBLED = 2 + 2 };
+
 /* Each row byte of the counter, value + 2 x mark, becomes the two bytes value and mark. */
 static void run_doubled(const uint8_t *doubled, size_t length)
 {
-    uint8_t state[2] = { 0 };
+    uint8_t state[STATE_OF_DOUBLED] = { 0 };
     uint8_t outputs[8] = { 0 };
     const uint8_t rows[8] = { 0, 1, 0, 0, 1, 0, 0, 0 };
 
     printf("power-up of the doubled: ");
     print_done(tracker_power_up(doubled, length, state, sizeof state));
-    print_bytes("state", state, sizeof state);
+    print_state(state, sizeof state);
 
     printf("\nrun of the doubled on 0 1 0 0 1 0 0 0: ");
     print_first_flow(tracker_run(doubled, length, 4, state, sizeof state, rows, sizeof rows, outputs, sizeof outputs));
     print_bytes("outputs", outputs, sizeof outputs);
-    print_bytes("state", state, sizeof state);
+    print_state(state, sizeof state);
     printf("\n");
 }
 
@@ -291,6 +318,7 @@ int main(void)
     print_done(tracker_check(counter, sizeof counter));
     printf("\n");
     power_up_and_step();
+    wrong_states();
     answers_that_are_not_clear();
     run_and_print_page();
     run_without_start();

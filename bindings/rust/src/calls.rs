@@ -29,7 +29,8 @@ pub fn check(image: &[u8]) -> Result<(), Refusal> {
 /// where none is given.
 ///
 /// So a register without a start wakes untrusted, and a clear verdict holds
-/// whatever it held. The state has R bytes. What they were is not looked at.
+/// whatever it held. The state has R + 2 bytes, of which the last two take the
+/// number of marked registers. What they were is not looked at.
 ///
 /// # Errors
 ///
@@ -42,9 +43,9 @@ pub fn check(image: &[u8]) -> Result<(), Refusal> {
 ///
 /// // Two REGs that take their own bytes, one with start 1 and one without.
 /// let image = encode(&[Net::new(kinds::REG, 0, 1, 0), Net::new(kinds::REG, 1, 2, 0)]);
-/// let mut state = [255; 2];
+/// let mut state = [255; 4];
 /// power_up(&image, &mut state)?;
-/// assert_eq!(state, [1, 2]);
+/// assert_eq!(state, [1, 2, 1, 0]);
 /// # Ok::<(), tracker::Refusal>(())
 /// ```
 pub fn power_up(image: &[u8], state: &mut [u8]) -> Result<(), Refusal> {
@@ -54,27 +55,34 @@ pub fn power_up(image: &[u8], state: &mut [u8]) -> Result<(), Refusal> {
 /// Takes one cycle: works out all nets, gives the verdict, and then every
 /// register takes the byte that its pin reads, all together.
 ///
-/// The state has R bytes and is rewritten, the row has I bytes, and `nets`
-/// takes the bytes of the N nets.
+/// The state has R + 2 bytes and is rewritten, with the number of registers that
+/// are marked after the clock. The row has I bytes, and `nets` takes the bytes of
+/// the N nets.
 ///
 /// # Errors
 ///
-/// Turns back with one of the refusals 1 to 8 and 10 to 14.
+/// Turns back with one of the refusals 1 to 8, 10 to 14 and 20. 20 is tried
+/// directly after 11.
 ///
 /// # Example
 ///
 /// ```
-/// use tracker::{encode, kinds, step, Net, Verdict};
+/// use tracker::{encode, kinds, marked_registers, step, Net, Verdict};
 ///
-/// // An INPUT, and a protected OUT on it.
-/// let image = encode(&[Net::new(kinds::INPUT, 0, 0, 0), Net::new(kinds::OUT, 0, 1, 0)]);
-/// let mut nets = [0; 2];
-/// let verdict = step(&image, &mut [], &[3], &mut nets)?;
+/// // An INPUT, a protected OUT on it, and a REG that takes it.
+/// let image = encode(&[
+///     Net::new(kinds::INPUT, 0, 0, 0),
+///     Net::new(kinds::OUT, 0, 1, 0),
+///     Net::new(kinds::REG, 0, 0, 0),
+/// ]);
+/// let (mut state, mut nets) = ([0; 3], [0; 3]);
+/// let verdict = step(&image, &mut state, &[3], &mut nets)?;
 /// assert_eq!(verdict, Verdict::Flow { net: 1 });
-/// assert_eq!(nets, [3, 3]);
+/// assert_eq!((nets, state), ([3, 3, 0], [3, 1, 0]));
+/// assert_eq!(marked_registers(&state), Some(1));
 ///
-/// assert!(step(&image, &mut [], &[1], &mut nets)?.is_clear());
-/// assert_eq!(nets, [1, 1]);
+/// assert!(step(&image, &mut state, &[1], &mut nets)?.is_clear());
+/// assert_eq!((nets, state), ([1, 1, 3], [1, 0, 0]));
 /// # Ok::<(), tracker::Refusal>(())
 /// ```
 pub fn step(
@@ -89,13 +97,14 @@ pub fn step(
 /// Takes K cycles, at most [`MOST_CYCLES`](crate::MOST_CYCLES), and answers with the first flow. It
 /// goes on to the end after a flow.
 ///
-/// The state has R bytes and is left as after the last cycle. `rows` has K × I
-/// bytes, cycle after cycle, and `outputs` takes K × O bytes, cycle after cycle
-/// and each cycle in output order.
+/// The state has R + 2 bytes and is left as after the last cycle, with the number
+/// of registers that are then marked. `rows` has K × I bytes, cycle after cycle, and
+/// `outputs` takes K × O bytes, cycle after cycle and each cycle in output order.
 ///
 /// # Errors
 ///
-/// Turns back with one of the refusals 1 to 14.
+/// Turns back with one of the refusals 1 to 14 and 20. 20 is tried directly after
+/// 11, also where K is 0, which changes no byte.
 ///
 /// # Example
 ///
@@ -105,7 +114,7 @@ pub fn step(
 /// // An INPUT, and a protected OUT on it.
 /// let image = encode(&[Net::new(kinds::INPUT, 0, 0, 0), Net::new(kinds::OUT, 0, 1, 0)]);
 /// let mut outputs = [0; 3];
-/// let answer = run(&image, 3, &mut [], &[0, 3, 1], &mut outputs)?;
+/// let answer = run(&image, 3, &mut [0, 0], &[0, 3, 1], &mut outputs)?;
 /// let verdict = Verdict::Flow { net: 1 };
 /// assert_eq!(answer, FirstFlow { cycle: 1, verdict });
 /// assert_eq!(outputs, [0, 3, 1]);
@@ -172,7 +181,8 @@ pub fn doubled_size(image: &[u8]) -> Result<DoubledSize, Refusal> {
 /// its mark, with start 1 where none is given and 0 otherwise. The values at
 /// outputs 2j and 2j + 1 are the value and the mark of the source's output j.
 /// Marks within the doubled netlist say nothing of the source: register 2j
-/// without a start wakes untrusted there.
+/// without a start wakes untrusted there. Nor does the count in its state, which
+/// has 2 × R + 2 bytes.
 ///
 /// Of the pins that stand for a pin of the source, those on a value net are
 /// inverted where that pin is, and those on a mark net never are.

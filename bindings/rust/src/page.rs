@@ -64,7 +64,7 @@ pub const fn page_length(k: usize, outputs: usize) -> usize {
 /// // An INPUT, and a protected OUT on it.
 /// let image = encode(&[Net::new(kinds::INPUT, 0, 0, 0), Net::new(kinds::OUT, 0, 1, 0)]);
 /// let mut record = [0; 3];
-/// let _ = run(&image, 3, &mut [], &[0, 3, 1], &mut record)?;
+/// let _ = run(&image, 3, &mut [0, 0], &[0, 3, 1], &mut record)?;
 /// let mut text = vec![0; page_length(3, 1)];
 /// page(&image, 3, &record, &mut text)?;
 /// assert_eq!(text, format!("cycle {:<64}\n    1 {:<64}\n", "0", "0h1").as_bytes());

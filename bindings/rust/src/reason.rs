@@ -9,7 +9,8 @@ use std::fmt;
 /// for [`Kind`](Reason::Kind), [`Pin`](Reason::Pin), [`Value`](Reason::Value)
 /// and [`UnlistedOperand`](Reason::UnlistedOperand), and that
 /// [`StaticByte`](Reason::StaticByte) stands where [`StateByte`](Reason::StateByte)
-/// and [`RowByte`](Reason::RowByte) do. Later releases may add numbers.
+/// and [`RowByte`](Reason::RowByte) do, and [`StateCount`](Reason::StateCount)
+/// directly after the former. Later releases may add numbers.
 #[derive(Debug, Clone, Copy, PartialEq, Eq, Hash)]
 #[non_exhaustive]
 #[repr(u32)]
@@ -35,9 +36,10 @@ pub enum Reason {
     Counts = 8,
     /// 9: K is above 4,096.
     TooManyCycles = 9,
-    /// 10: The state's length is not R.
+    /// 10: The state's length is not R + 2, or that of a static call not R.
     StateLength = 10,
-    /// 11: A state byte is above 3. The place is the index of the first one.
+    /// 11: A register's byte in the state is above 3. The place is the index of the
+    /// first one.
     StateByte = 11,
     /// 12: The row's length is not I, or that of a run's rows not K × I.
     RowLength = 12,
@@ -60,10 +62,12 @@ pub enum Reason {
     StaticByte = 18,
     /// 19: The page buffer's length is not that of the pages.
     PageLength = 19,
+    /// 20: The last two bytes of the state are not the number of marked registers.
+    StateCount = 20,
 }
 
 /// Every reason of this release, by rising number.
-const REASONS: [Reason; 19] = [
+const REASONS: [Reason; 20] = [
     Reason::ImageTooShort,
     Reason::NetsOutOfRange,
     Reason::ImageLength,
@@ -83,6 +87,7 @@ const REASONS: [Reason; 19] = [
     Reason::DoubledRefused,
     Reason::StaticByte,
     Reason::PageLength,
+    Reason::StateCount,
 ];
 
 impl Reason {
@@ -118,8 +123,8 @@ impl Reason {
             Reason::UnlistedOperand => "an operand that the kind does not list is not 0",
             Reason::Counts => "I, R or O is not the number of INPUT, REG or OUT nets",
             Reason::TooManyCycles => "K, the number of cycles, is above 4,096",
-            Reason::StateLength => "the state's length is not R",
-            Reason::StateByte => "a state byte is above 3",
+            Reason::StateLength => "the state's length is not R + 2 (static call: R)",
+            Reason::StateByte => "a register's byte in the state is above 3",
             Reason::RowLength => "the row's length is not I (run: K × I)",
             Reason::RowByte => "a row byte is above 3 (page: a record's byte)",
             Reason::BufferLength => {
@@ -130,6 +135,7 @@ impl Reason {
             Reason::DoubledRefused => "the finished doubled image was refused; buffer set to 0",
             Reason::StaticByte => "a state or row byte of a static run is 5 or above 6",
             Reason::PageLength => "the page buffer's length is not that of the pages",
+            Reason::StateCount => "the state's count is not the number of marked registers",
         }
     }
 }

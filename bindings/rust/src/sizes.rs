@@ -11,7 +11,7 @@ pub struct Sizes {
     pub nets: usize,
     /// I, the number of inputs: the length of a row.
     pub inputs: usize,
-    /// R, the number of registers: the length of the state.
+    /// R, the number of registers: a state has R + 2 bytes, or R for a static call.
     pub registers: usize,
     /// O, the number of outputs: a run fills K × O output bytes.
     pub outputs: usize,

@@ -5,7 +5,7 @@ use crate::{answers, ffi, FirstFlow, Refusal};
 /// Sets each register to static power-up: its start with mark 0, or the code
 /// [`UNKNOWN_UNTRUSTED`](crate::codes::UNKNOWN_UNTRUSTED) where none is given.
 ///
-/// The state has R bytes. What they were is not looked at.
+/// The state has R bytes, without a count. What they were is not looked at.
 ///
 /// # Errors
 ///
@@ -31,10 +31,10 @@ pub fn static_power_up(image: &[u8], state: &mut [u8]) -> Result<(), Refusal> {
 /// [`MOST_CYCLES`](crate::MOST_CYCLES), and answers with the first flow. It goes
 /// on to the end after a flow.
 ///
-/// State, rows and outputs have the lengths of a [`run`](crate::run). At each gate
-/// every unknown pin is filled both ways, independently of the other pins: the
-/// value is known if all fillings agree in it, and the mark is 1 if any filling
-/// marks.
+/// The state has R bytes, without a count, and rows and outputs have the lengths of
+/// a [`run`](crate::run). At each gate every unknown pin is filled both ways,
+/// independently of the other pins: the value is known if all fillings agree in it,
+/// and the mark is 1 if any filling marks.
 ///
 /// # What it says of runs
 ///
@@ -48,7 +48,7 @@ pub fn static_power_up(image: &[u8], state: &mut [u8]) -> Result<(), Refusal> {
 ///   is the value that each such run has there; and where it is not marked, no
 ///   such run has a mark there.
 /// - Where the state and the rows have bytes 0 to 3 alone, answer and bytes are
-///   those of [`run`](crate::run).
+///   those of [`run`](crate::run), but for the count.
 ///
 /// A flow may be one that no such run has, since each gate is filled by itself.
 ///

@@ -26,13 +26,13 @@ fn the_bit_is_the_top_bit_of_the_high_byte() {
 #[test]
 fn the_counter_counts_as_it_does_with_nots() {
     let image = encode(&COUNTER);
-    let (mut state, mut outputs) = ([255], [255; 4]);
+    let (mut state, mut outputs) = ([255; 3], [255; 4]);
     assert_eq!(power_up(&image, &mut state), Ok(()));
     let answer = run(&image, 4, &mut state, &[2, 0, 1, 0], &mut outputs);
     let verdict = Verdict::Flow { net: 3 };
     assert_eq!(answer, Ok(FirstFlow { cycle: 1, verdict }));
     assert_eq!(outputs, [0, 3, 2, 0]);
-    assert_eq!(state, [1]);
+    assert_eq!(state, [1, 0, 0]);
 }
 
 /// The bytes of the nets and the register after a step in which the register
@@ -47,7 +47,7 @@ fn stepped(byte: u8) -> ([u8; 7], u8) {
         Net::new(MUX, 1, 2, INVERTED),
         Net::new(OUT, INVERTED, 0, 0),
     ];
-    let (mut state, mut bytes) = ([0], [255; 7]);
+    let (mut state, mut bytes) = ([0; 3], [255; 7]);
     let answer = step(&encode(&nets), &mut state, &[byte], &mut bytes);
     assert!(answer.unwrap().is_clear());
     (bytes, state[0])
@@ -78,7 +78,7 @@ fn a_mark_follows_the_inverted_value_of_the_other_pin() {
     let image = encode(&nets);
     for (row, and) in [([2, 0], 2), ([2, 1], 0), ([3, 0], 3), ([3, 1], 0)] {
         let mut bytes = [255; 3];
-        let answer = step(&image, &mut [], &row, &mut bytes);
+        let answer = step(&image, &mut [0, 0], &row, &mut bytes);
         assert!(answer.unwrap().is_clear());
         assert_eq!(bytes, [row[0], row[1], and]);
     }
@@ -88,12 +88,12 @@ fn a_mark_follows_the_inverted_value_of_the_other_pin() {
 #[test]
 fn a_start_is_not_inverted() {
     let image = encode(&[Net::new(REG, INVERTED, 1, 0), Net::new(OUT, 0, 1, 0)]);
-    let (mut state, mut outputs) = ([255], [255; 3]);
+    let (mut state, mut outputs) = ([255; 3], [255; 3]);
     assert_eq!(power_up(&image, &mut state), Ok(()));
-    assert_eq!(state, [1]);
+    assert_eq!(state, [1, 0, 0]);
     let answer = run(&image, 3, &mut state, &[], &mut outputs);
     assert!(answer.unwrap().verdict.is_clear());
-    assert_eq!((outputs, state), ([1, 0, 1], [0]));
+    assert_eq!((outputs, state), ([1, 0, 1], [0; 3]));
 }
 
 // The groups of the INPUT, the AND and the OUT are nets 0 and 1, 2 to 7, and 8 and

@@ -52,7 +52,7 @@ fn lengths() {
 #[test]
 fn the_counter_of_the_specification() {
     let image = encode(&COUNTER);
-    let (mut state, mut record) = ([255], [255; 4]);
+    let (mut state, mut record) = ([255; 3], [255; 4]);
     power_up(&image, &mut state).unwrap();
     let _ = run(&image, 4, &mut state, &[2, 0, 1, 0], &mut record).unwrap();
     let expected = [line("cycle ", "0"), line("    5 ", "0hl0")].concat();

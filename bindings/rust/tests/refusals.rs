@@ -62,24 +62,24 @@ fn states() {
     assert_eq!(answer, refused(Reason::StateLength, 0));
     assert_eq!(state, [7, 7]);
 
-    let (mut state, mut nets) = ([4], [7]);
+    let (mut state, mut nets) = ([4, 0, 0], [7]);
     let answer = step(&register, &mut state, &[], &mut nets);
     assert_eq!(answer, refused(Reason::StateByte, 0));
-    assert_eq!((state, nets), ([4], [7]));
+    assert_eq!((state, nets), ([4, 0, 0], [7]));
 }
 
 #[test]
 fn rows_and_buffers_of_a_step() {
     let inputs = encode(&[INPUT, INPUT]);
     let mut nets = [7; 2];
-    let answer = step(&inputs, &mut [], &[0], &mut nets);
+    let answer = step(&inputs, &mut [0, 0], &[0], &mut nets);
     assert_eq!(answer, refused(Reason::RowLength, 0));
-    let answer = step(&inputs, &mut [], &[3, 255], &mut nets);
+    let answer = step(&inputs, &mut [0, 0], &[3, 255], &mut nets);
     assert_eq!(answer, refused(Reason::RowByte, 1));
     assert_eq!(nets, [7; 2]);
 
     let mut nets = [7; 3];
-    let answer = step(&inputs, &mut [], &[0, 0], &mut nets);
+    let answer = step(&inputs, &mut [0, 0], &[0, 0], &mut nets);
     assert_eq!(answer, refused(Reason::BufferLength, 0));
     assert_eq!(nets, [7; 3]);
 }
@@ -87,7 +87,7 @@ fn rows_and_buffers_of_a_step() {
 #[test]
 fn cycles_rows_and_buffers_of_a_run() {
     let register = encode(&[REG]);
-    let mut state = [2];
+    let mut state = [2, 1, 0];
     for k in [4_097, usize::MAX] {
         let answer = run(&register, k, &mut state, &[], &mut []);
         assert_eq!(answer, refused(Reason::TooManyCycles, 0));
@@ -97,10 +97,10 @@ fn cycles_rows_and_buffers_of_a_run() {
     let mut outputs = [7];
     let answer = run(&register, 4_096, &mut state, &[], &mut outputs);
     assert_eq!(answer, refused(Reason::BufferLength, 0));
-    assert_eq!((state, outputs), ([2], [7]));
+    assert_eq!((state, outputs), ([2, 1, 0], [7]));
 
     let inputs = encode(&[INPUT, INPUT]);
-    let answer = run(&inputs, 2, &mut [], &[0, 1, 2, 4], &mut []);
+    let answer = run(&inputs, 2, &mut [0, 0], &[0, 1, 2, 4], &mut []);
     assert_eq!(answer, refused(Reason::RowByte, 3));
 }
 

@@ -49,6 +49,18 @@ fn a_static_power_up_asks_for_the_length_of_the_state() {
     assert_eq!((answer, state), (Err(Refusal { reason, place }), [7, 7]));
 }
 
+// With the count that a run takes, the state is too long, also if the count is right.
+#[test]
+fn static_calls_take_no_count() {
+    let (reason, place) = (Reason::StateLength, 0);
+    for state in [[0, 0, 0], [3, 1, 0]] {
+        assert_eq!(refused(1, &state, &[0], &[7]), Refusal { reason, place });
+        let mut lent = state;
+        let answer = static_power_up(&encode(&COUNTER), &mut lent);
+        assert_eq!((answer, lent), (Err(Refusal { reason, place }), state));
+    }
+}
+
 // A state with an unknown bit is one for static runs alone.
 #[test]
 fn steps_and_runs_refuse_unknown_codes() {
@@ -56,10 +68,10 @@ fn steps_and_runs_refuse_unknown_codes() {
     let mut outputs = [7];
     for code in [UNKNOWN_TRUSTED, UNKNOWN_UNTRUSTED] {
         let (reason, place) = (Reason::StateByte, 0);
-        let answer = run(&image, 1, &mut [code], &[0], &mut outputs);
+        let answer = run(&image, 1, &mut [code, 0, 0], &[0], &mut outputs);
         assert_eq!(answer, Err(Refusal { reason, place }));
         let reason = Reason::RowByte;
-        let answer = step(&image, &mut [0], &[code], &mut [7; 6]);
+        let answer = step(&image, &mut [0; 3], &[code], &mut [7; 6]);
         assert_eq!(answer, Err(Refusal { reason, place }));
     }
     assert_eq!(outputs, [7]);

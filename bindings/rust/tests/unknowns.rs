@@ -85,12 +85,12 @@ fn a_static_run_speaks_of_the_runs_that_fill_it() {
         let (mut state, mut outputs) = ([0], [255; 3]);
         let answer = static_run(&image, 3, &mut state, &codes, &mut outputs);
         for rows in fillings(codes) {
-            let (mut filled_state, mut filled) = ([0], [255; 3]);
+            let (mut filled_state, mut filled) = ([0; 3], [255; 3]);
             let concrete = run(&image, 3, &mut filled_state, &rows, &mut filled);
             let is_clear = answer.unwrap().verdict.is_clear();
             assert!(!is_clear || concrete.unwrap().verdict.is_clear());
             let codes = outputs.iter().chain(&state);
-            for (code, byte) in codes.zip(filled.iter().chain(&filled_state)) {
+            for (code, byte) in codes.zip(filled.iter().chain(&filled_state[..1])) {
                 let value = codes::value(*code);
                 assert!(value.is_none() || value == codes::value(*byte));
                 assert!(codes::is_marked(*code) || !codes::is_marked(*byte));
@@ -102,17 +102,17 @@ fn a_static_run_speaks_of_the_runs_that_fill_it() {
 #[test]
 fn only_a_register_without_a_start_wakes_unknown() {
     let image = encode(&[0, 1, 2].map(|start| Net::new(REG, 0, start, 0)));
-    let (mut state, mut powered) = ([255; 3], [255; 3]);
+    let (mut state, mut powered) = ([255; 3], [255; 5]);
     assert_eq!(static_power_up(&image, &mut state), Ok(()));
     assert_eq!(power_up(&image, &mut powered), Ok(()));
-    assert_eq!((state, powered), ([0, 1, 6], [0, 1, 2]));
+    assert_eq!((state, powered), ([0, 1, 6], [0, 1, 2, 1, 0]));
 }
 
-// The counter's four rows: without unknowns it is the run.
+// The counter's four rows: without unknowns it is the run, but for the count.
 #[test]
 fn without_unknowns_it_is_the_run() {
     let (image, rows) = (encode(&COUNTER), [2, 0, 1, 0]);
-    let (mut state, mut outputs) = ([0], [255; 4]);
+    let (mut state, mut outputs) = ([0; 3], [255; 4]);
     let answer = run(&image, 4, &mut state, &rows, &mut outputs);
     assert_eq!(counted(rows), (answer.unwrap(), outputs, state[0]));
     assert_eq!(outputs, [0, 3, 2, 0]);

@@ -44,9 +44,9 @@ fn a_figure_is_a_number_of_nets() {
     assert_eq!(doubled_kind(8_192), Ok(8_192));
 }
 
-// 1, 6, 9, 13, 15, 16, 17, 18 and 19 times 2^32, and the place: 33,554,431 is the
-// index of the last of 4,096 × 8,192 row bytes, and 4,294,967,295, the largest place,
-// that of a byte far behind in a record.
+// 1, 6, 9, 13, and 15 to 20 times 2^32, and the place: 33,554,431 is the index of
+// the last of 4,096 × 8,192 row bytes, and 4,294,967,295, the largest place, that of
+// a byte far behind in a record.
 #[test]
 fn a_refusal_holds_its_number_above_the_place() {
     assert_eq!(done(4_294_967_296), refused(Reason::ImageTooShort, 0));
@@ -63,14 +63,15 @@ fn a_refusal_holds_its_number_above_the_place() {
     assert_eq!(run(77_309_411_328), refused(Reason::StaticByte, 0));
     assert_eq!(run(77_342_965_759), refused(Reason::StaticByte, 33_554_431));
     assert_eq!(done(81_604_378_624), refused(Reason::PageLength, 0));
+    assert_eq!(step(85_899_345_920), refused(Reason::StateCount, 0));
     let far_behind = refused(Reason::RowByte, 4_294_967_295);
     assert_eq!(done(60_129_542_143), far_behind);
 }
 
 #[test]
-#[should_panic(expected = "the answer 85899345920, which this wrapper does not know")]
-fn refusal_20_is_unknown() {
-    let _ = done(85_899_345_920);
+#[should_panic(expected = "the answer 90194313216, which this wrapper does not know")]
+fn refusal_21_is_unknown() {
+    let _ = done(90_194_313_216);
 }
 
 #[test]

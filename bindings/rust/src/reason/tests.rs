@@ -4,8 +4,8 @@ use super::*;
 use crate::Refusal;
 
 #[test]
-fn the_numbers_1_to_19_each_have_a_reason() {
-    for (number, reason) in (1..=19).zip(REASONS) {
+fn the_numbers_1_to_20_each_have_a_reason() {
+    for (number, reason) in (1..=20).zip(REASONS) {
         assert_eq!(reason.number(), number);
         assert_eq!(Reason::from_number(number), Some(reason));
     }
@@ -13,7 +13,7 @@ fn the_numbers_1_to_19_each_have_a_reason() {
 
 #[test]
 fn no_other_number_has_one() {
-    for number in [0, 20, 26, u32::MAX] {
+    for number in [0, 21, 26, u32::MAX] {
         assert_eq!(Reason::from_number(number), None);
     }
 }
@@ -43,7 +43,7 @@ fn a_refusal_says_its_place_where_it_has_one() {
     );
     assert_eq!(
         words(Reason::StateByte, 0),
-        "refusal 11 at index 0: a state byte is above 3"
+        "refusal 11 at index 0: a register's byte in the state is above 3"
     );
     assert_eq!(
         words(Reason::StaticByte, 7),
@@ -52,5 +52,9 @@ fn a_refusal_says_its_place_where_it_has_one() {
     assert_eq!(
         words(Reason::PageLength, 0),
         "refusal 19: the page buffer's length is not that of the pages"
+    );
+    assert_eq!(
+        words(Reason::StateCount, 0),
+        "refusal 20: the state's count is not the number of marked registers"
     );
 }
