@@ -62,9 +62,9 @@ pub fn clock(image: &[u8], n: usize, nets: &[u8], state: &mut [u8]) -> u16
     while i < n {
         if kind_of(image, i) == REG {
             let a = operand_of(image, i, 0);
-            let x = pin_byte(nets, a);
-            state[j] = x;
-            marked += mark_bit(x);
+            let taken = pin_byte(nets, a);
+            state[j] = taken;
+            marked += mark_bit(taken);
             j += 1;
         }
         i += 1;
