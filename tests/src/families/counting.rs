@@ -1,4 +1,4 @@
-//! The count of marked registers, in states of good netlists, some of which have some
+//! The count of marked registers, in states of good netlists, some of which have many
 //! hundred registers: what power-up sets, and steps and runs from states with and
 //! without faults. What each call has to answer follows from its faults, and is held
 //! against the reference too.
@@ -48,12 +48,12 @@ pub fn run(case: &mut Case) -> Outcome {
     Ok(())
 }
 
-/// A small netlist, or one of some hundred registers, an input and an output.
+/// A small netlist, or one of some hundred registers and more, an input and an output.
 fn netlist(random: &mut Random) -> Vec<Net> {
     if random.chance(7, 8) {
         return netlists::small(random);
     }
-    let registers = random.between(250, 600);
+    let registers = random.between(250, 1500);
     let kinds = [&[INPUT][..], &vec![REG; registers], &[OUT]].concat();
     netlists::of_kinds(random, &kinds)
 }
