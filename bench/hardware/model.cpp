@@ -60,8 +60,8 @@ static Netlist read_netlist(const std::string &folder, size_t cycles) {
     n.registers = size_at(n.image, 4);
     n.outputs = size_at(n.image, 6);
     n.rows.resize(cycles * n.inputs);
-    n.start.resize(n.registers + 1);
-    if (tracker_power_up(n.image.data(), n.image.size(), n.start.data(), n.registers) != 0) abort();
+    n.start.resize(tracker_state_length(n.registers));
+    if (tracker_power_up(n.image.data(), n.image.size(), n.start.data(), n.start.size()) != 0) abort();
     for (size_t c = 0; c < cycles; c++)
         for (int bit = 0; bit < 2; bit++) {
             Words words = packed(n.rows.data() + c * n.inputs, n.inputs, bit);
@@ -98,7 +98,7 @@ static double run_model(const Netlist &n, Vtop &top, Words &outputs) {
 static double run_library(const Netlist &n, Bytes &outputs) {
     Bytes state = n.start;
     auto begin = Clock::now();
-    uint64_t answer = tracker_run(n.image.data(), n.image.size(), n.cycles, state.data(), n.registers, n.rows.data(),
+    uint64_t answer = tracker_run(n.image.data(), n.image.size(), n.cycles, state.data(), state.size(), n.rows.data(),
                                   n.rows.size(), outputs.data(), n.cycles * n.outputs);
     double seconds = std::chrono::duration<double>(Clock::now() - begin).count();
     if (tracker_refusal(answer) != 0) abort();

@@ -1,25 +1,31 @@
 //! Before anything is timed, every peer has to give what the library gives.
 
 use crate::accepted::accepted;
+use crate::call::Call;
 use crate::cases::Bytes;
 use crate::generate::image;
-use crate::libraries::takes;
+use crate::libraries::{left, takes};
 use crate::mix::MIXES;
 use crate::peer::Peer;
 use crate::peers::PEERS;
 use crate::random::Random;
 use crate::sizing::{figures, Figures};
 use tracker::kinds::INVERTED;
-use tracker::{ffi, operand_place};
+use tracker::{ffi, operand_place, MOST_CYCLES};
 
 /// How many small netlists are tried.
 pub const SMALL: usize = 600;
 
-/// Compares the peers with the library on small netlists, with few cycles.
+/// Bytes that no register has, and bytes of a row that no input has.
+const NO_BYTES: [u8; 4] = [4, 6, 128, 255];
+
+/// Compares the peers with the library on small netlists, with few cycles, and with
+/// calls that are turned back.
 pub fn assert_agree_on_small(peers: &[Peer]) {
     for seed in 0..SMALL {
         let (bytes, k) = small(seed);
         assert_agree(&bytes, k, peers);
+        assert_refusals_agree(peers, &NO_BYTES, &bytes, k, seed as u64);
     }
 }
 
@@ -51,9 +57,50 @@ pub fn assert_agree_with(library: Peer, bytes: &Bytes, k: usize, peers: &[Peer])
         peer_outputs.fill(0x55);
         let peer_answer = bytes.run(*peer, k, &mut peer_state, &mut peer_outputs);
         assert_eq!(peer_answer, answer, "first flow of {}", peer.name);
-        assert!(peer_state == state, "state of {}", peer.name);
+        let states = [&peer_state, &state].map(|state| left(peer.name, state));
+        assert!(states[0] == states[1], "state of {}", peer.name);
         assert!(peer_outputs == outputs, "outputs of {}", peer.name);
     }
+}
+
+/// Compares the answers to calls with bad bytes, in the state and its count or in the
+/// rows, with buffers that are too long, and with too many cycles. The first of the
+/// peers is the library. A build that takes other states or images is left out.
+pub fn assert_refusals_agree(peers: &[Peer], bad: &[u8], bytes: &Bytes, k: usize, seed: u64) {
+    let takes_all = |peer: &&Peer| {
+        takes(peer.name, &bytes.image) && left(peer.name, &bytes.start) == bytes.start
+    };
+    let mut random = Random::new(seed);
+    for _ in 0..4 {
+        let mut state = bytes.start.clone();
+        let mut rows = bytes.rows.clone();
+        let mut outputs = bytes.outputs(k);
+        let cycles = [k, MOST_CYCLES + 1][usize::from(random.chance(10))];
+        for buffer in [&mut state, &mut rows] {
+            if random.chance(50) && !buffer.is_empty() {
+                let place = random.below(buffer.len());
+                buffer[place] = bad[random.below(bad.len())];
+            }
+        }
+        for buffer in [&mut state, &mut rows, &mut outputs] {
+            buffer.extend(random.chance(20).then_some(0));
+        }
+        let answer = |peer: &Peer| answer(*peer, bytes, cycles, &state, &rows, outputs.len());
+        let expected = answer(&peers[0]);
+        let others = peers.iter().filter(takes_all);
+        assert!(others.map(answer).all(|answer| answer == expected));
+    }
+}
+
+/// The answer to a call on copies of what it writes.
+fn answer(peer: Peer, bytes: &Bytes, k: usize, state: &[u8], rows: &[u8], outputs: usize) -> u64 {
+    (peer.run)(Call {
+        image: &bytes.image,
+        k,
+        state: &mut state.to_vec(),
+        rows,
+        outputs: &mut vec![0; outputs],
+    })
 }
 
 /// Compares the peer of the doubled size with the library, on netlists of which

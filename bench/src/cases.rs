@@ -5,7 +5,7 @@ use crate::call::Call;
 use crate::generate::{image, row_codes, rows};
 use crate::mix::Mix;
 use crate::peer::Peer;
-use tracker::{ffi, Sizes};
+use tracker::{ffi, state_length, Sizes};
 
 /// The seeds of the netlists and of the rows.
 const NETLIST_SEED: u64 = 1;
@@ -54,7 +54,7 @@ impl Case {
 }
 
 /// A case with its bytes: the image, the state at power-up, and rows; or, for a
-/// static run, the state at static power-up, and rows of codes.
+/// static run, the state at static power-up, which has no count, and rows of codes.
 pub struct Bytes {
     pub image: Vec<u8>,
     pub sizes: Sizes,
@@ -72,7 +72,7 @@ impl Bytes {
     /// An image with rows for k cycles.
     pub fn with_image(image: Vec<u8>, k: usize, seed: u64) -> Bytes {
         let sizes = accepted(&image).sizes();
-        let mut start = vec![0; sizes.registers];
+        let mut start = vec![0; state_length(sizes.registers)];
         assert_eq!(ffi::power_up(&image, &mut start), 0);
         Bytes {
             rows: rows(k * sizes.inputs, seed),
@@ -89,7 +89,7 @@ impl Bytes {
 
     /// The same image with rows of codes for k cycles of a static run.
     pub fn with_codes(self, k: usize, seed: u64) -> Bytes {
-        let mut start = self.start;
+        let mut start = vec![0; self.sizes.registers];
         assert_eq!(ffi::static_power_up(&self.image, &mut start), 0);
         Bytes {
             rows: row_codes(k * self.sizes.inputs, seed),

@@ -1,13 +1,16 @@
-//! What the peers test before a run: the refusals 1 to 14 of a run, in order, and
-//! those of a static run, which has 18 in place of 11 and 13.
+//! What the peers test before a run: the refusals 1 to 14 of a run, in order, with 20
+//! directly after 11, and those of a static run, which has 18 in place of 11 and 13
+//! and no 20.
 //!
 //! An answer is the refusal's number * 2^32 + its place, as the library's.
 
 use crate::call::Call;
 use crate::limits::{Limits, NO_KIND};
 use crate::pins::net_of;
+use crate::state::count_marked;
 use tracker::kinds::{AND, CONST, INPUT, MUX, NOT, OUT, REG, XOR};
-use tracker::{codes, sizes, Image, Net, Sizes, MOST_CYCLES, MOST_NETS};
+use tracker::{codes, marked_registers, sizes, state_length};
+use tracker::{Image, Net, Sizes, MOST_CYCLES, MOST_NETS};
 
 /// The answer of a refusal.
 pub fn refusal(number: u64, place: usize) -> u64 {
@@ -72,36 +75,50 @@ fn bad_net(net: Net, i: usize, n: usize) -> u64 {
     }
 }
 
-/// Checks all that a run is lent: the image's sizes, or a refusal 1 to 14.
+/// Checks all that a run is lent: the image's sizes, or a refusal 1 to 14 or 20.
 pub fn check_run(call: &Call) -> Result<Sizes, u64> {
-    check_lent(call, [11, 13], |byte| byte <= 3)
+    let is_taken = |byte| byte <= 3;
+    let sizes = check_cycles(call)?;
+    check_length(10, call.state, state_length(sizes.registers))?;
+    let registers = &call.state[..sizes.registers];
+    check_bytes(11, registers, is_taken)?;
+    if marked_registers(call.state) != Some(count_marked(registers)) {
+        return Err(refusal(20, 0));
+    }
+    check_rows(call, sizes, 13, is_taken)
 }
 
 /// Checks all that a static run is lent: the image's sizes, or a refusal 1 to 10,
 /// 12, 14 or 18.
 pub fn check_static_run(call: &Call) -> Result<Sizes, u64> {
-    check_lent(call, [18, 18], codes::is_code)
+    let sizes = check_cycles(call)?;
+    check_length(10, call.state, sizes.registers)?;
+    check_bytes(18, call.state, codes::is_code)?;
+    check_rows(call, sizes, 18, codes::is_code)
 }
 
-/// Checks all that a call is lent. The two numbers are the refusals of a byte that
-/// is not taken, in the state and in the rows.
+/// Checks the image of a call and its number of cycles.
 #[inline(always)]
-fn check_lent(
-    call: &Call,
-    [in_state, in_rows]: [u64; 2],
-    is_taken: impl Fn(u8) -> bool + Copy,
-) -> Result<Sizes, u64> {
+fn check_cycles(call: &Call) -> Result<Sizes, u64> {
     let sizes = check(call.image)?;
-    if call.k > MOST_CYCLES {
-        return Err(refusal(9, 0));
+    match call.k > MOST_CYCLES {
+        true => Err(refusal(9, 0)),
+        false => Ok(sizes),
     }
-    check_length(10, call.state, sizes.registers)?;
-    check_bytes(in_state, call.state, is_taken)?;
+}
+
+/// Checks the rows and the outputs of a call. The number is the refusal of a byte
+/// that is not taken.
+#[inline(always)]
+fn check_rows(
+    call: &Call,
+    sizes: Sizes,
+    number: u64,
+    is_taken: impl Fn(u8) -> bool,
+) -> Result<Sizes, u64> {
     check_length(12, call.rows, call.k * sizes.inputs)?;
-    check_bytes(in_rows, call.rows, is_taken)?;
-    if call.outputs.len() != call.k * sizes.outputs {
-        return Err(refusal(14, 0));
-    }
+    check_bytes(number, call.rows, is_taken)?;
+    check_length(14, call.outputs, call.k * sizes.outputs)?;
     Ok(sizes)
 }
 

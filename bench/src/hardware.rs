@@ -15,6 +15,7 @@ use crate::generate::image;
 use crate::mix::Mix;
 use crate::peers::PEERS;
 use crate::pins::{inverted_pins, net_of, pins};
+use crate::state::count_marked;
 use crate::verilog::{net, top, MarksAs, MuxAs};
 use tracker::kinds::{OUT, REG};
 use tracker::{Image, Net};
@@ -62,11 +63,6 @@ fn inverted_by_kind(image: Image) -> [usize; 7] {
         counts[usize::from(net.kind - REG)] += inverted_pins(&net);
     }
     counts
-}
-
-/// How many bytes are marked.
-fn count_marked(bytes: &[u8]) -> usize {
-    bytes.iter().filter(|byte| **byte >= 2).count()
 }
 
 /// The widths of the ports, and the marks and values of the registers at power-up.

@@ -2,7 +2,7 @@
 //! named one when this program was built.
 
 use crate::pins::has_inverted_pins;
-use tracker::ffi;
+use tracker::{ffi, state_length};
 
 #[cfg(other)]
 use crate::other;
@@ -67,6 +67,23 @@ pub fn named(name: &str) -> Option<Library> {
         .iter()
         .find(|library| library.name == name)
         .copied()
+}
+
+/// What a build or a peer of a name leaves right of a state: all of it, or, of another
+/// build whose states have no count, the registers.
+pub fn left<'a>(name: &str, state: &'a [u8]) -> &'a [u8] {
+    match name == "other" && !other_has_count() {
+        true => &state[..state.len() - state_length(0)],
+        false => state,
+    }
+}
+
+/// Whether the states of the other build have a count.
+fn other_has_count() -> bool {
+    #[cfg(other)]
+    return other::has_count();
+    #[cfg(not(other))]
+    true
 }
 
 /// Whether a build or a peer of a name takes an accepted image. All do, but for

@@ -46,6 +46,7 @@ mod repeated;
 mod rounds;
 mod running;
 mod sizing;
+mod state;
 mod statics;
 mod verilog;
 

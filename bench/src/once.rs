@@ -6,7 +6,7 @@ use crate::agree::assert_agree;
 use crate::aligned::{print, row};
 use crate::cases::{Bytes, Case};
 use crate::count::{counted, valgrind_is_there};
-use crate::libraries::takes;
+use crate::libraries::{left, takes};
 use crate::mix::{Mix, MIXES};
 use crate::peer::Peer;
 use crate::peers::named;
@@ -82,7 +82,10 @@ fn times(case: Case, peers: &[Peer]) -> Vec<Vec<f64>> {
         }
     }
     let first = timed[0].0.state();
-    assert!(timed.iter().all(|(calls, _)| calls.state() == first));
+    for (calls, _) in &timed {
+        let states = [calls.state(), first].map(|state| left(calls.name(), state));
+        assert!(states[0] == states[1], "state of {}", calls.name());
+    }
     times
 }
 

@@ -1,5 +1,12 @@
 //! The calls of another build of the library, on slices. Build.rs gives each of
-//! them the name that stands here.
+//! them the name that stands here. A build whose states have no count is lent the
+//! registers of a state alone.
+
+use std::sync::OnceLock;
+
+use crate::state::parts;
+use tracker::kinds::CONST;
+use tracker::{encode, state_length, Net};
 
 extern "C" {
     fn other_check(image: *const u8, image_length: usize) -> u64;
@@ -70,11 +77,34 @@ pub fn check(image: &[u8]) -> u64 {
     unsafe { other_check(image.as_ptr(), image.len()) }
 }
 
-pub fn power_up(image: &[u8], state: &mut [u8]) -> u64 {
+fn power_up_whole(image: &[u8], state: &mut [u8]) -> u64 {
     unsafe { other_power_up(image.as_ptr(), image.len(), state.as_mut_ptr(), state.len()) }
 }
 
+/// Whether the states of this build have a count, which is tried once: without
+/// registers, a state is the count alone.
+pub fn has_count() -> bool {
+    static HAS_COUNT: OnceLock<bool> = OnceLock::new();
+    *HAS_COUNT.get_or_init(|| {
+        let image = encode(&[Net::new(CONST, 0, 0, 0)]);
+        power_up_whole(&image, &mut vec![0; state_length(0)]) == 0
+    })
+}
+
+/// What this build is lent of a state.
+fn lent(state: &mut [u8]) -> &mut [u8] {
+    match has_count() {
+        true => state,
+        false => parts(state).0,
+    }
+}
+
+pub fn power_up(image: &[u8], state: &mut [u8]) -> u64 {
+    power_up_whole(image, lent(state))
+}
+
 pub fn step(image: &[u8], state: &mut [u8], row: &[u8], nets: &mut [u8]) -> u64 {
+    let state = lent(state);
     unsafe {
         other_step(
             image.as_ptr(),
@@ -90,6 +120,7 @@ pub fn step(image: &[u8], state: &mut [u8], row: &[u8], nets: &mut [u8]) -> u64 
 }
 
 pub fn run(image: &[u8], k: usize, state: &mut [u8], rows: &[u8], outputs: &mut [u8]) -> u64 {
+    let state = lent(state);
     unsafe {
         other_run(
             image.as_ptr(),

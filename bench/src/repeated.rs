@@ -37,6 +37,11 @@ impl Calls {
         }
     }
 
+    /// The name of the peer.
+    pub fn name(&self) -> &'static str {
+        self.peer.name
+    }
+
     /// The state that the last call left.
     pub fn state(&self) -> &[u8] {
         &self.state

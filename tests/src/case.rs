@@ -6,11 +6,12 @@ use crate::coding::{in_words, number_of, refusal};
 use crate::drawing;
 use crate::exactness::Reached;
 use crate::expecting::{expect, figure};
-use crate::failure::Failure;
+use crate::failure::{Failure, Outcome};
 use crate::lent::{Lent, WrongByte};
 use crate::making::{self, make, Made};
 use crate::printing::{hex, hex_start};
 use crate::random::Random;
+use crate::states;
 use crate::tally::Tally;
 use reference::DoubledSize;
 
@@ -59,6 +60,7 @@ impl<'a> Case<'a> {
         }
         call.state = expected.state;
         call.filled = expected.filled;
+        self.has_its_count(image, call, made.answer)?;
         self.tally.compared += 1;
         self.tally.note(image, call, made.answer);
         Ok(made.answer)
@@ -105,9 +107,21 @@ impl<'a> Case<'a> {
         }
         call.state.copy_from_slice(made.state());
         call.filled.copy_from_slice(made.filled());
+        self.has_its_count(image, call, made.answer)?;
         self.tally.alone += 1;
         self.tally.note(image, call, made.answer);
         Ok(made.answer)
+    }
+
+    /// Asks that the state that an accepted call left holds the number of its marked
+    /// registers, which are counted here.
+    fn has_its_count(&self, image: &[u8], call: &Call, answer: u64) -> Outcome {
+        let is_accepted = call.name.has_count() && number_of(answer) == 0;
+        if is_accepted && !states::is_counted(&call.state) {
+            let property = "the state that is left holds the number of its marked registers";
+            return Err(self.broken(image, call, answer, property));
+        }
+        Ok(())
     }
 
     /// Counts a net whose mark is as it has to be.

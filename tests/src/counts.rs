@@ -3,6 +3,7 @@
 
 use crate::call::Call;
 use crate::name::Name;
+use crate::states;
 use reference::GROUP_LENGTHS;
 use tracker::kinds::OUT;
 use tracker::{image_length, Net, Sizes, MOST_CYCLES, MOST_NETS};
@@ -50,7 +51,18 @@ impl Counts {
             }
             _ => return false,
         };
-        call.state.len() == self.registers && call.rows.len() == rows && call.filled.len() == filled
+        let state = self.state_length(call.name);
+        call.state.len() == state && call.rows.len() == rows && call.filled.len() == filled
+    }
+
+    /// The right length of the state of a call, which has a count unless the call is
+    /// static.
+    pub fn state_length(&self, name: Name) -> usize {
+        if name.has_count() {
+            states::length(self.registers)
+        } else {
+            self.registers
+        }
     }
 
     /// The doubled netlist is not above 8,192 nets.

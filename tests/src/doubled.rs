@@ -5,6 +5,7 @@ use crate::case::Case;
 use crate::counts::Counts;
 use crate::failure::Failure;
 use crate::figures::{are_written, asked};
+use crate::states;
 use tracker::kinds::OUT;
 use tracker::{Image, Net};
 
@@ -49,9 +50,15 @@ pub fn nets_of(image: &[u8]) -> Option<Vec<Net>> {
     nets.iter().all(|net| net.kind <= OUT).then_some(nets)
 }
 
-/// A row or a state for the doubled netlist: each byte v + 2 x t becomes v and t.
+/// A row for the doubled netlist: each byte v + 2 x t becomes v and t.
 pub fn split(bytes: &[u8]) -> Vec<u8> {
     bytes.iter().flat_map(|byte| [byte % 2, byte / 2]).collect()
+}
+
+/// The state of the doubled netlist for these register bytes of the source, which become
+/// v and t too. It has a count of its own, of bytes that are not marked.
+pub fn doubled_state(registers: &[u8]) -> Vec<u8> {
+    states::of(&split(registers))
 }
 
 /// The bytes v + 2 x t of bytes of the doubled netlist, two for one, whose plain

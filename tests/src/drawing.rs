@@ -8,6 +8,7 @@ use crate::cycles::{few, with_high_bits, wrapping, NOTED};
 use crate::name::Name;
 use crate::pages;
 use crate::random::Random;
+use crate::states;
 use std::iter;
 use tracker::MOST_CYCLES;
 
@@ -55,13 +56,13 @@ fn large_kind(random: &mut Random) -> usize {
     random.below(9) | 1 << random.between(4, 63)
 }
 
-/// Any call with right lengths. The state is lent where the call takes one; for
-/// a power-up, any bytes are.
+/// Any call with right lengths. The state is lent where the call takes one, without
+/// its count to a static run; for a power-up, any bytes are.
 pub fn any(random: &mut Random, counts: &Counts, state: &[u8]) -> Call {
     match random.below(17) {
         0 => Call::check(),
         1 => double(random, counts),
-        2 | 3 => Call::power_up(random.bytes(counts.registers)),
+        2 | 3 => Call::power_up(random.bytes(states::length(counts.registers))),
         4..=7 => step(random, counts, state),
         8 => Call::doubled_size(),
         9 => {
@@ -71,7 +72,7 @@ pub fn any(random: &mut Random, counts: &Counts, state: &[u8]) -> Call {
         10 => Call::static_power_up(random.bytes(counts.registers)),
         11 => {
             let k = few(random);
-            static_run(random, counts, k, state)
+            static_run(random, counts, k, states::registers(state))
         }
         12 => pages::any(random, counts),
         _ => {
@@ -82,22 +83,34 @@ pub fn any(random: &mut Random, counts: &Counts, state: &[u8]) -> Call {
 }
 
 /// Makes one thing wrong in a call: a length, some bytes, or k. With
-/// `state_too` it may be the state as well.
+/// `state_too` it may be the state as well, or its count.
 pub fn put_fault(random: &mut Random, counts: &Counts, call: &mut Call, state_too: bool) {
     let spoil = match call.name {
         Name::Page => return pages::put_fault(random, counts, call),
         Name::StaticRun => codes::spoil,
         _ => bytes::spoil,
     };
-    match random.below(if state_too { 8 } else { 6 }) {
+    match random.below(if state_too { 9 } else { 6 }) {
         0 if call.name.has_rows() => resize(random, &mut call.rows),
         1 | 2 if call.name.has_rows() => spoil(random, &mut call.rows),
         3 | 4 if call.name.has_k() => put_other_cycles(random, counts, call),
-        6 if call.name.has_state() => resize(random, &mut call.state),
+        6 if call.name.has_count() => states::resize(random, &mut call.state),
+        6 if call.name.has_state() => put_count_behind(random, &mut call.state),
         7 if call.name.has_state() => spoil(random, &mut call.state),
+        8 if call.name.has_count() => states::put_wrong_count(random, &mut call.state),
         _ if call.name.has_filled() => resize(random, &mut call.filled),
         _ if state_too => resize(random, &mut call.state),
         _ => {}
+    }
+}
+
+/// Gives the state of a static call a wrong length, often by the count that states of
+/// other calls have.
+fn put_count_behind(random: &mut Random, state: &mut Vec<u8>) {
+    if random.chance(1, 3) {
+        *state = states::of(state);
+    } else {
+        resize(random, state);
     }
 }
 

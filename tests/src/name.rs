@@ -68,6 +68,11 @@ impl Name {
         self.has_cycles() || matches!(self, Name::PowerUp | Name::StaticPowerUp)
     }
 
+    /// The call takes a state with a count of its marked registers.
+    pub fn has_count(self) -> bool {
+        matches!(self, Name::PowerUp | Name::Step | Name::Run)
+    }
+
     /// The call takes rows, or a record in their place.
     pub fn has_rows(self) -> bool {
         self.has_cycles() || self == Name::Page
@@ -83,7 +88,7 @@ impl Name {
             1..=8 => true,
             9 => self.has_k(),
             10 => self.has_state(),
-            11 => matches!(self, Name::Step | Name::Run),
+            11 | 20 => matches!(self, Name::Step | Name::Run),
             12 => self.has_cycles(),
             13 => matches!(self, Name::Step | Name::Run | Name::Page),
             14 => self.has_rows(),

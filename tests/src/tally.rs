@@ -5,6 +5,7 @@ use std::fmt;
 use crate::bits::Bits;
 use crate::call::Call;
 use crate::coding::{number_of, place_of, CLEAR};
+use crate::counted::Counted;
 use crate::exactness::Exactness;
 use crate::name::{Name, NAMES};
 use crate::paged::Paged;
@@ -19,15 +20,17 @@ pub struct Tally {
     /// Calls whose outcome was used for a property of the library alone.
     pub alone: u64,
     /// Calls by the number of their refusal; index 0 counts the accepted ones.
-    pub numbers: [u64; 20],
+    pub numbers: [u64; 21],
     /// Refusals 4 to 7, 11 and 13 by their place: first, last, between.
-    pub places: [[u64; 3]; 20],
+    pub places: [[u64; 3]; 21],
     /// Accepted calls, in the order of `Name`.
     pub accepted: [u64; NAMES],
     /// Accepted steps and runs that answered with a flow.
     pub flows: u64,
     /// Inverted pins, and top bits that were refused.
     pub bits: Bits,
+    /// Counts of marked registers.
+    pub counted: Counted,
     /// Static calls.
     pub unknowns: Unknowns,
     /// Calls that write pages.
@@ -46,6 +49,7 @@ impl Tally {
         let number = number_of(answer) as usize;
         self.numbers[number] += 1;
         self.bits.note(image, call.name, answer);
+        self.counted.note(image, call, answer);
         self.unknowns.note(call, answer);
         self.paged.note(image, call, answer);
         if number == 0 {
@@ -84,6 +88,7 @@ impl fmt::Display for Tally {
              static power-up {static_power_up}, static run {static_run}, page {page}"
         )?;
         writeln!(f, "steps and runs with a flow: {}", self.flows)?;
+        writeln!(f, "{}", self.counted)?;
         writeln!(f, "{}", self.unknowns)?;
         writeln!(f, "{}", self.paged)?;
         write!(f, "{}", self.exactness)
@@ -91,11 +96,11 @@ impl fmt::Display for Tally {
 }
 
 /// How many places a refusal has to choose from. Only 4 to 7, 11 and 13 have a
-/// place.
+/// place, and 11 is for registers alone.
 fn length_of_places(image: &[u8], call: &Call, number: usize) -> Option<usize> {
     match number {
         4..=7 => tracker::sizes(image).map(|sizes| sizes.nets),
-        11 => Some(call.state.len()),
+        11 => tracker::sizes(image).map(|sizes| sizes.registers),
         13 => Some(call.rows.len()),
         _ => None,
     }

@@ -2,7 +2,8 @@
 
 use std::mem::take;
 use std::time::Instant;
-use tests::{run_family, Bits, Exactness, Name, Paged, Tally, Unknowns, FAMILIES, LIBRARY};
+use tests::{run_family, Bits, Counted, Exactness, Name, Paged, Tally, Unknowns};
+use tests::{FAMILIES, LIBRARY};
 
 /// Every refusal but 17 must be seen at least so often, and every one of each static
 /// call and of the call that writes pages.
@@ -11,7 +12,7 @@ const LEAST_SEEN: u64 = 10;
 /// The calls in which a family must have inverted pins of all kinds, and images
 /// without any of all kinds, and how often.
 #[rustfmt::skip]
-const INVERTED: [(&str, &[Name], u64); 15] = [
+const INVERTED: [(&str, &[Name], u64); 16] = [
     ("exhaustive", &[
         Name::Check, Name::PowerUp, Name::Step, Name::Run, Name::Double,
         Name::StaticPowerUp, Name::StaticRun, Name::Page,
@@ -33,6 +34,7 @@ const INVERTED: [(&str, &[Name], u64); 15] = [
     ("steps", &[Name::Step, Name::Run], 1000),
     ("exact", &[Name::Step], 1000),
     ("page_texts", &[Name::Run, Name::Page], 1000),
+    ("counting", &[Name::PowerUp, Name::Step, Name::Run], 1000),
     ("static_gates", &[Name::StaticRun], 1),
     ("static_runs", &[Name::StaticPowerUp, Name::StaticRun], 1000),
     ("filling", &[Name::StaticPowerUp, Name::StaticRun, Name::Run], 1000),
@@ -67,7 +69,7 @@ fn all_families() {
 fn enough(tally: &Tally) {
     assert!(tally.compared >= 100_000);
     assert_eq!(tally.numbers[17], 0);
-    for number in (1..=16).chain([18, 19]) {
+    for number in (1..=16).chain(18..=20) {
         assert!(tally.numbers[number] >= LEAST_SEEN, "refusal {number}");
     }
     for number in [4, 5, 6, 7, 11, 13] {
@@ -81,9 +83,21 @@ fn enough(tally: &Tally) {
     let clear = tally.accepted[2] + tally.accepted[3] - tally.flows;
     assert!(tally.flows >= 10_000);
     assert!(clear >= 10_000);
+    enough_counted(&tally.counted);
     enough_unknowns(&tally.unknowns);
     enough_paged(&tally.paged);
     enough_exact(&tally.exactness);
+}
+
+/// Asks that the counts of states went everywhere: none, few and more than 255 marked
+/// registers left by each call, wrong counts of all kinds, and those beside other faults.
+fn enough_counted(counted: &Counted) {
+    let left = counted.left.concat();
+    assert!(left.iter().all(|seen| *seen >= 1000), "{left:?}");
+    let refused = counted.wrong.iter().chain(&counted.order);
+    assert!(refused
+        .chain([&counted.in_static])
+        .all(|seen| *seen >= 1000));
 }
 
 /// Asks that the static calls went everywhere: each of their refusals, 18 for the

@@ -2,7 +2,6 @@
 //! middle and any net, alone and with others beside it, and images with a pin that
 //! is only just good.
 
-use crate::bytes::tracked;
 use crate::call::Call;
 use crate::case::Case;
 use crate::counts::Counts;
@@ -10,6 +9,7 @@ use crate::drawing;
 use crate::failure::Outcome;
 use crate::faults::{damaged, Fault};
 use crate::netlists;
+use crate::states;
 
 /// The first fault follows from the seed: its number goes through 0 to 8, and
 /// its net through four places.
@@ -28,7 +28,7 @@ pub fn run(case: &mut Case) -> Outcome {
     case.compare(&image, &mut Call::check())?;
     case.compare_figures(&image)?;
     let counts = Counts::of(&nets);
-    let state = tracked(&mut case.random, counts.registers);
+    let state = states::draw(&mut case.random, counts.registers);
     let mut other = drawing::any(&mut case.random, &counts, &state);
     if case.random.chance(1, 4) {
         drawing::put_fault(&mut case.random, &counts, &mut other, true);

@@ -12,13 +12,14 @@ use crate::listed::{net_of, pins_of};
 use crate::netlists;
 use crate::random::Random;
 use crate::replay::{steps, Cycle};
+use crate::states;
 use tracker::kinds::{AND, CONST, INPUT, INVERTED, MUX, NOT, OR, OUT, REG, XOR};
 use tracker::{encode, Net};
 
 /// At most so many INPUTs and REGs are marked, since all their values are tried.
 const MOST_MARKED: usize = 6;
 
-/// A netlist, and the bytes of its row and behind them those of its state.
+/// A netlist, and the bytes of its row and behind them those of its registers.
 struct Start {
     nets: Vec<Net>,
     counts: Counts,
@@ -111,10 +112,11 @@ fn spread(random: &mut Random, nets: &mut [Net]) {
     }
 }
 
-/// A step of the library, with these bytes of the row and the state.
+/// A step of the library, with these bytes of the row and the registers.
 fn step(case: &mut Case, start: &Start, bytes: &[u8]) -> Result<Cycle, Box<Failure>> {
-    let (row, state) = bytes.split_at(start.counts.inputs);
-    let mut cycles = steps(case, &start.image, &start.counts, 1, state, row)?;
+    let (row, registers) = bytes.split_at(start.counts.inputs);
+    let state = states::of(registers);
+    let mut cycles = steps(case, &start.image, &start.counts, 1, &state, row)?;
     Ok(cycles.remove(0))
 }
 

@@ -11,6 +11,7 @@ use crate::drawing;
 use crate::failure::Outcome;
 use crate::figures::compare_doubling;
 use crate::pages;
+use crate::states;
 use tracker::{encode, Net};
 
 /// The numbers of netlists of one, two and three nets: for each net as many
@@ -31,9 +32,10 @@ pub fn run(case: &mut Case) -> Outcome {
     let counts = Counts::of(&nets);
     let image = encode(&nets);
     case.compare(&image, &mut Call::check())?;
-    let mut powered = Call::power_up(case.random.bytes(counts.registers));
+    let mut powered = Call::power_up(case.random.bytes(states::length(counts.registers)));
     case.compare(&image, &mut powered)?;
-    for state in all_bytes(counts.registers) {
+    for registers in all_bytes(counts.registers) {
+        let state = states::of(&registers);
         for row in all_bytes(counts.inputs) {
             let buffer = case.random.bytes(counts.nets);
             let mut step = Call::step(state.clone(), row, buffer);

@@ -2,7 +2,6 @@
 //! outputs and states that there can be, and a bad byte at their very ends; and the
 //! pages of as many cycles.
 
-use crate::bytes::tracked;
 use crate::call::Call;
 use crate::case::Case;
 use crate::codes;
@@ -11,6 +10,7 @@ use crate::drawing;
 use crate::failure::Outcome;
 use crate::netlists;
 use crate::pages;
+use crate::states;
 use tracker::kinds::{CONST, INPUT, INVERTED, NOT, OUT, REG};
 use tracker::{encode, Net, MOST_CYCLES, MOST_NETS};
 
@@ -28,13 +28,13 @@ pub fn run(case: &mut Case) -> Outcome {
     let counts = Counts::of(&nets);
     let image = encode(&nets);
     case.compare_figures(&image)?;
-    let state = tracked(&mut case.random, counts.registers);
+    let state = states::draw(&mut case.random, counts.registers);
     let run = drawing::run(&mut case.random, &counts, MOST_CYCLES, &state);
-    with_bad_ends(case, &image, run, 4)?;
+    with_bad_ends(case, &image, &counts, run, 4)?;
     if STATIC.contains(&(case.seed % CASES)) {
         let state = codes::draw(&mut case.random, counts.registers);
         let run = drawing::static_run(&mut case.random, &counts, MOST_CYCLES, &state);
-        with_bad_ends(case, &image, run, 5)?;
+        with_bad_ends(case, &image, &counts, run, 5)?;
     }
     longest_pages(case, &image, &counts)
 }
@@ -56,16 +56,21 @@ fn longest_pages(case: &mut Case, image: &[u8], counts: &Counts) -> Outcome {
     Ok(())
 }
 
-/// Makes a run, and makes it again with a bad byte at the end of its rows, and once
-/// more with 255 at the end of its state.
-fn with_bad_ends(case: &mut Case, image: &[u8], run: Call, bad: u8) -> Outcome {
+/// Makes a run, and makes it again with a bad byte at the end of its rows, then with
+/// 255 at the end of its count, if it has one, and once more with 255 in its last
+/// register.
+fn with_bad_ends(case: &mut Case, image: &[u8], counts: &Counts, run: Call, bad: u8) -> Outcome {
     let mut run = run;
     case.compare(image, &mut run)?;
     if let Some(byte) = run.rows.last_mut() {
         *byte = bad;
         case.compare(image, &mut run)?;
     }
-    if let Some(byte) = run.state.last_mut() {
+    if run.name.has_count() {
+        run.state[counts.registers + 1] = 255;
+        case.compare(image, &mut run)?;
+    }
+    if let Some(byte) = run.state[..counts.registers].last_mut() {
         *byte = 255;
         case.compare(image, &mut run)?;
     }

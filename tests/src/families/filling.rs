@@ -10,10 +10,11 @@ use crate::cycles::few;
 use crate::drawing;
 use crate::failure::{Failure, Outcome};
 use crate::netlists;
+use crate::states;
 use crate::waking::{static_power_up, waking};
 use tracker::{encode, Image};
 
-/// A state of codes, and states of runs that fill its unknowns.
+/// A state of codes, and states of runs that fill its unknowns, with their counts.
 struct States {
     codes: Vec<u8>,
     filled: [Vec<u8>; 2],
@@ -40,7 +41,7 @@ fn starting(case: &mut Case, image: &[u8], counts: &Counts) -> Result<States, Bo
         });
     }
     let codes = codes::draw(&mut case.random, counts.registers);
-    let filled = [(); 2].map(|()| codes::filled(&mut case.random, &codes));
+    let filled = [(); 2].map(|()| states::of(&codes::filled(&mut case.random, &codes)));
     Ok(States { codes, filled })
 }
 
@@ -90,7 +91,7 @@ fn uncovered(run: &Call, answer: u64, beside: &Call, concrete: u64) -> Option<St
         let code = run.filled[index];
         return Some(format!("output byte {index} is as the code {code} says"));
     }
-    let index = first_uncovered(&run.state, &beside.state)?;
+    let index = first_uncovered(&run.state, states::registers(&beside.state))?;
     let code = run.state[index];
     Some(format!("state byte {index} is as the code {code} says"))
 }

@@ -4,7 +4,6 @@
 //! inverted or not, at random, and it is checked, stepped, run and doubled again.
 
 use crate::all::{all_bytes, all_nets, chosen, Pins};
-use crate::bytes::tracked;
 use crate::call::Call;
 use crate::case::Case;
 use crate::counts::Counts;
@@ -12,6 +11,7 @@ use crate::drawing;
 use crate::failure::Outcome;
 use crate::figures::compare_doubling;
 use crate::listed::pins_of;
+use crate::states;
 use tracker::kinds::{INPUT, INVERTED};
 use tracker::{encode, Net};
 
@@ -36,7 +36,7 @@ fn plain_calls(case: &mut Case, nets: &[Net]) -> Outcome {
     cycles(case, &image, &counts)?;
     compare_doubling(case, &image, &counts)?;
     if nets[..3].iter().all(|net| net.kind == INPUT) {
-        let state = tracked(&mut case.random, counts.registers);
+        let state = states::draw(&mut case.random, counts.registers);
         for row in all_bytes(counts.inputs) {
             let buffer = case.random.bytes(counts.nets);
             let mut step = Call::step(state.clone(), row, buffer);
@@ -72,7 +72,7 @@ fn inverted_calls(case: &mut Case, nets: &[Net]) -> Outcome {
 /// A check, and a step and a run with one state.
 fn cycles(case: &mut Case, image: &[u8], counts: &Counts) -> Outcome {
     case.compare(image, &mut Call::check())?;
-    let state = tracked(&mut case.random, counts.registers);
+    let state = states::draw(&mut case.random, counts.registers);
     let mut step = drawing::step(&mut case.random, counts, &state);
     case.compare(image, &mut step)?;
     let mut run = drawing::run(&mut case.random, counts, 3, &step.state);

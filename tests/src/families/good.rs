@@ -1,6 +1,5 @@
 //! Small good netlists: all calls with right lengths.
 
-use crate::bytes::tracked;
 use crate::call::Call;
 use crate::case::Case;
 use crate::counts::Counts;
@@ -10,6 +9,7 @@ use crate::failure::Outcome;
 use crate::figures::compare_doubling;
 use crate::netlists;
 use crate::pages;
+use crate::states;
 use tracker::{encode, Net};
 
 pub fn run(case: &mut Case) -> Outcome {
@@ -24,10 +24,10 @@ pub fn calls(case: &mut Case, nets: &[Net], k: usize) -> Outcome {
     let counts = Counts::of(nets);
     let image = encode(nets);
     case.compare(&image, &mut Call::check())?;
-    let mut powered = Call::power_up(case.random.bytes(counts.registers));
+    let mut powered = Call::power_up(case.random.bytes(states::length(counts.registers)));
     case.compare(&image, &mut powered)?;
     cycles(case, &image, &counts, k, powered.state)?;
-    let state = tracked(&mut case.random, counts.registers);
+    let state = states::draw(&mut case.random, counts.registers);
     cycles(case, &image, &counts, k, state)?;
     compare_doubling(case, &image, &counts)?;
     let mut page = pages::any(&mut case.random, &counts);

@@ -1,7 +1,6 @@
-//! Good images with wrong buffers: lengths, bad bytes and k, one fault or
+//! Good images with wrong buffers: lengths, bad bytes, counts and k, one fault or
 //! several at once.
 
-use crate::bytes::tracked;
 use crate::call::Call;
 use crate::case::Case;
 use crate::codes;
@@ -12,6 +11,7 @@ use crate::failure::Outcome;
 use crate::name::Name;
 use crate::netlists;
 use crate::pages;
+use crate::states;
 use tracker::encode;
 
 /// The calls of one case in five, which are static, and those of the others.
@@ -42,10 +42,10 @@ pub fn run(case: &mut Case) -> Outcome {
 /// A call with right lengths on any state.
 fn right_call(case: &mut Case, counts: &Counts, name: Name) -> Call {
     let random = &mut case.random;
-    let state = tracked(random, counts.registers);
+    let state = states::draw(random, counts.registers);
     match name {
         Name::Check => Call::check(),
-        Name::PowerUp => Call::power_up(random.bytes(counts.registers)),
+        Name::PowerUp => Call::power_up(random.bytes(states::length(counts.registers))),
         Name::Step => drawing::step(random, counts, &state),
         Name::Run => {
             let k = few(random);

@@ -1,6 +1,7 @@
 //! The families of cases. Each has one function that makes the calls of a case,
 //! from the random numbers of its seed.
 
+mod counting;
 mod damaged;
 mod doubling;
 mod exact;
@@ -34,7 +35,7 @@ pub struct Family {
 
 /// All families. The last six try properties of the library alone.
 #[rustfmt::skip]
-pub static FAMILIES: [Family; 20] = [
+pub static FAMILIES: [Family; 21] = [
     Family { name: "exhaustive", cases: exhaustive::CASES, run: exhaustive::run },
     Family { name: "four_nets", cases: four_nets::CASES, run: four_nets::run },
     Family { name: "operands", cases: operands::CASES, run: operands::run },
@@ -49,6 +50,7 @@ pub static FAMILIES: [Family; 20] = [
     Family { name: "static_gates", cases: static_gates::CASES, run: static_gates::run },
     Family { name: "static_runs", cases: 15_000, run: static_runs::run },
     Family { name: "page_texts", cases: 30_000, run: page_texts::run },
+    Family { name: "counting", cases: 20_000, run: counting::run },
     Family { name: "pairing", cases: 20_000, run: pairing::run },
     Family { name: "two_runs", cases: 20_000, run: two_runs::run },
     Family { name: "steps", cases: 40_000, run: steps::run },

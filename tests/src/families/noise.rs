@@ -1,7 +1,6 @@
 //! Images without a plan: good ones with some bytes changed, cut or added, and
 //! random bytes.
 
-use crate::bytes::tracked;
 use crate::call::Call;
 use crate::case::Case;
 use crate::counts::Counts;
@@ -9,6 +8,7 @@ use crate::drawing;
 use crate::failure::Outcome;
 use crate::netlists;
 use crate::random::Random;
+use crate::states;
 use tracker::kinds::INVERTED;
 use tracker::{encode, encode_with, Net, Sizes};
 
@@ -28,7 +28,7 @@ pub fn run(case: &mut Case) -> Outcome {
     case.compare(&image, &mut Call::check())?;
     case.compare_figures(&image)?;
     let counts = Counts::of(&nets);
-    let state = tracked(&mut case.random, counts.registers);
+    let state = states::draw(&mut case.random, counts.registers);
     let mut other = drawing::any(&mut case.random, &counts, &state);
     case.compare(&image, &mut other)?;
     Ok(())

@@ -1,7 +1,6 @@
 //! Good netlists: a run, and the pages of its outputs, which are read back and then
 //! compared with the reference's.
 
-use crate::bytes::tracked;
 use crate::call::Call;
 use crate::case::Case;
 use crate::coding::number_of;
@@ -11,6 +10,7 @@ use crate::drawing;
 use crate::failure::{Failure, Outcome};
 use crate::netlists;
 use crate::page_reading::{read_back, Shown};
+use crate::states;
 use tracker::encode;
 
 pub fn run(case: &mut Case) -> Outcome {
@@ -39,7 +39,7 @@ fn outputs(
     counts: &Counts,
     k: usize,
 ) -> Result<Vec<u8>, Box<Failure>> {
-    let state = tracked(&mut case.random, counts.registers);
+    let state = states::draw(&mut case.random, counts.registers);
     let mut run = drawing::run(&mut case.random, counts, k, &state);
     let answer = case.ask(image, &mut run)?;
     if number_of(answer) != 0 {

@@ -7,10 +7,11 @@ use crate::case::Case;
 use crate::coding::CLEAR;
 use crate::counts::Counts;
 use crate::cycles::few;
-use crate::doubled::{double, joined, joined_byte, split, Doubled};
+use crate::doubled::{double, doubled_state, joined, joined_byte, split, Doubled};
 use crate::failure::{Failure, Outcome};
 use crate::netlists;
 use crate::replay::{steps, Cycle};
+use crate::states;
 use crate::waking::power_up;
 use tracker::{encode, Net};
 
@@ -68,13 +69,13 @@ fn power_ups(case: &mut Case, pair: &Pair) -> Result<Start, Box<Failure>> {
     })
 }
 
-/// Any state of bytes 0 to 3. Register j's value and mark start the doubled
-/// registers 2j and 2j + 1.
+/// Any state of registers with bytes 0 to 3. Register j's value and mark start the
+/// doubled registers 2j and 2j + 1.
 fn any_state(case: &mut Case, pair: &Pair) -> Start {
-    let state = tracked(&mut case.random, pair.counts.registers);
+    let registers = tracked(&mut case.random, pair.counts.registers);
     Start {
-        doubled: split(&state),
-        source: state,
+        source: states::of(&registers),
+        doubled: doubled_state(&registers),
     }
 }
 
@@ -92,7 +93,7 @@ fn outputs_pair(case: &mut Case, pair: &Pair, start: &Start, k: usize, rows: &[u
         Some(String::from("a run of the doubled netlist is clear"))
     } else {
         difference("output byte", &run.filled, &joined(&beside.filled))
-            .or_else(|| difference("register", &run.state, &joined(&beside.state)))
+            .or_else(|| registers_differ(&run.state, &beside.state))
     };
     match property {
         Some(property) => Err(case.broken(&pair.doubled.image, &beside, answer, property)),
@@ -110,7 +111,7 @@ fn nets_pair(case: &mut Case, pair: &Pair, start: &Start, k: usize, rows: &[u8])
     let beside = steps(case, &doubled.image, twice, k, &start.doubled, &rows)?;
     for (cycle, (one, two)) in source.iter().zip(&beside).enumerate() {
         let difference = difference("net", &one.nets, &shown(counts, two))
-            .or_else(|| difference("register", &one.state, &joined(&two.state)));
+            .or_else(|| registers_differ(&one.state, &two.state));
         if let Some(text) = difference {
             let property = format!("in cycle {cycle} {text}");
             let step = Call::step(two.state.clone(), Vec::new(), two.nets.clone());
@@ -125,6 +126,13 @@ fn shown(counts: &Counts, cycle: &Cycle) -> Vec<u8> {
     let nets = &cycle.nets;
     let byte = |net| joined_byte(nets[counts.value_net(net)], nets[counts.mark_net(net)]);
     (0..counts.nets).map(byte).collect()
+}
+
+/// Where the registers of the source's state are not those that the doubled state shows.
+/// Each of the two has its own count, and these are not compared.
+fn registers_differ(source: &[u8], doubled: &[u8]) -> Option<String> {
+    let shown = joined(states::registers(doubled));
+    difference("register", states::registers(source), &shown)
 }
 
 /// Where the bytes of the source are not those that the doubled netlist shows.

@@ -1,7 +1,6 @@
 //! A run of k cycles leaves what k steps leave: a property of the library
 //! alone.
 
-use crate::bytes::tracked;
 use crate::case::Case;
 use crate::counts::Counts;
 use crate::cycles::few;
@@ -9,6 +8,7 @@ use crate::drawing;
 use crate::failure::Outcome;
 use crate::netlists;
 use crate::replay::{same_as_run, steps};
+use crate::states;
 use crate::waking::power_up;
 use tracker::encode;
 
@@ -16,7 +16,7 @@ pub fn run(case: &mut Case) -> Outcome {
     let nets = netlists::mostly_small(&mut case.random, 100);
     let counts = Counts::of(&nets);
     let image = encode(&nets);
-    let mut state = tracked(&mut case.random, counts.registers);
+    let mut state = states::draw(&mut case.random, counts.registers);
     if case.random.chance(1, 2) {
         state = power_up(case, &image, counts.registers)?;
     }

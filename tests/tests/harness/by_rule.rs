@@ -1,7 +1,7 @@
 //! Stand-ins that work out their cycles by wrong rules, in steps and in runs alike, or
 //! in static runs.
 
-use crate::parts::{bytes, bytes_mut, library_run, read};
+use crate::parts::{bytes, bytes_mut, change_registers, library_run, read};
 use crate::rules::{Rules, RULES};
 use crate::static_rules::STATIC_RULES;
 use tests::coding::{number_of, CLEAR};
@@ -37,11 +37,11 @@ fn pin_byte(rules: &Rules, kind: u8, index: usize, pin: u16, nets: &[u8]) -> u8 
     }
 }
 
-/// One cycle by rules: the nets and the verdict as an answer. The state is
+/// One cycle by rules: the nets and the verdict as an answer. The registers are
 /// clocked.
-fn cycle(rules: &Rules, image: Image, state: &mut [u8], row: &[u8]) -> (Vec<u8>, u64) {
+fn cycle(rules: &Rules, image: Image, held: &mut [u8], row: &[u8]) -> (Vec<u8>, u64) {
     let mut nets = vec![0; image.sizes().nets];
-    let (mut inputs, mut registers) = (row.iter(), state.iter());
+    let (mut inputs, mut registers) = (row.iter(), held.iter());
     let mut verdict = CLEAR;
     for (number, net) in image.nets().enumerate() {
         let [a, b, c] = net.operands;
@@ -57,20 +57,20 @@ fn cycle(rules: &Rules, image: Image, state: &mut [u8], row: &[u8]) -> (Vec<u8>,
         }
     }
     let registers = image.nets().filter(|net| net.kind == REG);
-    for (byte, register) in state.iter_mut().zip(registers) {
+    for (byte, register) in held.iter_mut().zip(registers) {
         *byte = pin_byte(rules, REG, 0, register.operands[0], &nets);
     }
     (nets, verdict)
 }
 
-/// k cycles by rules: the outputs and the first flow as an answer. The state is left
-/// as after the last one.
-fn cycles(rules: &Rules, image: Image, k: usize, state: &mut [u8], rows: &[u8]) -> (Vec<u8>, u64) {
+/// k cycles by rules: the outputs and the first flow as an answer. The registers are
+/// left as after the last one.
+fn cycles(rules: &Rules, image: Image, k: usize, held: &mut [u8], rows: &[u8]) -> (Vec<u8>, u64) {
     let inputs = image.sizes().inputs;
     let (mut filled, mut first) = (Vec::new(), k as u64 * 65_536 + CLEAR);
     for number in 0..k {
         let row = &rows[number * inputs..(number + 1) * inputs];
-        let (nets, verdict) = cycle(rules, image, state, row);
+        let (nets, verdict) = cycle(rules, image, held, row);
         let bytes = image.kinds().iter().zip(nets);
         filled.extend(
             bytes
@@ -89,15 +89,18 @@ unsafe extern "C" fn step<const INDEX: usize>(
     image: *const u8, il: usize, state: *mut u8, sl: usize,
     row: *const u8, rl: usize, nets: *mut u8, nl: usize,
 ) -> u64 {
-    let mut own = bytes(state, sl).to_vec();
-    let answer = (LIBRARY.step)(image, il, state, sl, row, rl, nets, nl);
+    let before = bytes(state, sl).to_vec();
+    let mut answer = (LIBRARY.step)(image, il, state, sl, row, rl, nets, nl);
     if number_of(answer) != 0 {
         return answer;
     }
-    let (filled, verdict) = cycle(&RULES[INDEX], read(image, il), &mut own, bytes(row, rl));
-    bytes_mut(state, sl).copy_from_slice(&own);
-    bytes_mut(nets, nl).copy_from_slice(&filled);
-    verdict
+    change_registers::<false>(state, sl, |held| {
+        held.copy_from_slice(&before[..held.len()]);
+        let (filled, verdict) = cycle(&RULES[INDEX], read(image, il), held, bytes(row, rl));
+        bytes_mut(nets, nl).copy_from_slice(&filled);
+        answer = verdict;
+    });
+    answer
 }
 
 #[rustfmt::skip]
@@ -105,14 +108,17 @@ unsafe extern "C" fn run<const INDEX: usize, const STATIC: bool>(
     image: *const u8, il: usize, k: usize, state: *mut u8, sl: usize,
     rows: *const u8, rl: usize, outputs: *mut u8, ol: usize,
 ) -> u64 {
-    let mut own = bytes(state, sl).to_vec();
+    let before = bytes(state, sl).to_vec();
     let rules = if STATIC { &STATIC_RULES[INDEX] } else { &RULES[INDEX] };
-    let answer = library_run::<STATIC>()(image, il, k, state, sl, rows, rl, outputs, ol);
+    let mut answer = library_run::<STATIC>()(image, il, k, state, sl, rows, rl, outputs, ol);
     if number_of(answer) != 0 {
         return answer;
     }
-    let (filled, first) = cycles(rules, read(image, il), k, &mut own, bytes(rows, rl));
-    bytes_mut(state, sl).copy_from_slice(&own);
-    bytes_mut(outputs, ol).copy_from_slice(&filled);
-    first
+    change_registers::<STATIC>(state, sl, |held| {
+        held.copy_from_slice(&before[..held.len()]);
+        let (filled, first) = cycles(rules, read(image, il), k, held, bytes(rows, rl));
+        bytes_mut(outputs, ol).copy_from_slice(&filled);
+        answer = first;
+    });
+    answer
 }

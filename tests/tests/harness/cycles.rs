@@ -1,6 +1,6 @@
 //! Stand-ins that get the cycles wrong: the clock, or what a run leaves.
 
-use crate::parts::{bytes, bytes_mut, library_run, read};
+use crate::parts::{bytes, bytes_mut, change_registers, library_run, read};
 use reference::not_byte;
 use tests::coding::{number_of, CLEAR};
 use tests::listed::net_of;
@@ -22,15 +22,17 @@ unsafe extern "C" fn step_clocked_in_turn(
     if number_of(answer) != 0 {
         return answer;
     }
-    let (image, state) = (read(image, il), bytes_mut(state, sl));
+    let image = read(image, il);
     let mut seen = bytes(nets, nl).to_vec();
     let registers = (0..nl).filter(|net| image.kinds()[*net] == REG);
-    for (index, net) in registers.enumerate() {
-        let pin = image.operand(net, 0);
-        let byte = seen[net_of(pin)];
-        seen[net] = if pin >= INVERTED { not_byte(byte) } else { byte };
-        state[index] = seen[net];
-    }
+    change_registers::<false>(state, sl, |held| {
+        for (index, net) in registers.enumerate() {
+            let pin = image.operand(net, 0);
+            let byte = seen[net_of(pin)];
+            seen[net] = if pin >= INVERTED { not_byte(byte) } else { byte };
+            held[index] = seen[net];
+        }
+    });
     answer
 }
 

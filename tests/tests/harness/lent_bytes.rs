@@ -1,7 +1,7 @@
 //! Stand-ins that leave wrong bytes, in the buffers or beside them. Their
 //! answers are right.
 
-use crate::parts::{bytes_mut, library_run};
+use crate::parts::{bytes_mut, change_registers, library_run};
 use tests::coding::number_of;
 use tests::{Calls, LIBRARY};
 
@@ -92,7 +92,7 @@ unsafe extern "C" fn step_all_marked(
     let answer = (LIBRARY.step)(image, il, state, sl, row, rl, nets, nl);
     if number_of(answer) == 0 {
         bytes_mut(nets, nl).iter_mut().for_each(|byte| *byte |= 2);
-        bytes_mut(state, sl).iter_mut().for_each(|byte| *byte |= 2);
+        change_registers::<false>(state, sl, |held| held.iter_mut().for_each(|byte| *byte |= 2));
     }
     answer
 }

@@ -4,6 +4,9 @@
 mod altered;
 mod answers;
 mod by_rule;
+mod count_refusals;
+mod count_table;
+mod counts;
 mod cycles;
 mod doubled_bits;
 mod doubling;
@@ -20,6 +23,7 @@ mod static_rules;
 mod table;
 mod waking;
 
+use count_table::COUNT_STAND_INS;
 use page_table::PAGE_STAND_INS;
 use table::{StandIn, STAND_INS};
 use tests::{named, run_case, run_family, Failure, Family, Tally, FAMILIES, LIBRARY};
@@ -34,7 +38,10 @@ const FEWER_CASES: u64 = 5;
 
 /// All stand-ins.
 fn stand_ins() -> impl Iterator<Item = &'static StandIn> {
-    STAND_INS.iter().chain(&PAGE_STAND_INS)
+    STAND_INS
+        .iter()
+        .chain(&PAGE_STAND_INS)
+        .chain(&COUNT_STAND_INS)
 }
 
 /// Runs the first cases of a family with a stand-in.
@@ -108,7 +115,7 @@ fn a_report_says_what_is_needed() {
     assert_eq!(is, expected ^ 1);
     let text = format!(
         "family exhaustive, seed 0\n\
-         call 2 of the case: tracker_power_up, image of 15 bytes, state of 0\n\
+         call 2 of the case: tracker_power_up, image of 15 bytes, state of 2\n\
          the library answers 0x0: done\n\
          the reference says  0x0: done\n\
          first differing byte: guard byte 1 before the state was written: it is {is}, expected {expected}\n\

@@ -20,7 +20,7 @@ unsafe extern "C" fn step_buffer_first(
 ) -> u64 {
     let answer = (LIBRARY.step)(image, il, state, sl, row, rl, nets, nl);
     match number_of(answer) {
-        10..=13 if nl != read(image, il).sizes().nets => 14 * ONE,
+        10..=13 | 20 if nl != read(image, il).sizes().nets => 14 * ONE,
         _ => answer,
     }
 }

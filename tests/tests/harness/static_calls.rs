@@ -2,22 +2,64 @@
 
 use crate::parts::{bytes, bytes_mut, read};
 use tests::coding::{number_of, place_of};
-use tests::{Calls, LIBRARY};
+use tests::{states, Calls, LIBRARY};
 use tracker::codes::is_code;
 
 const ONE: u64 = 1 << 32;
 
 /// Powers up as a power-up does, so that a register without a start has 2.
 pub const POWERS_UP_AS_RUNS: Calls = Calls {
-    static_power_up: LIBRARY.power_up,
+    static_power_up: powers_up_as_runs,
     ..LIBRARY
 };
 
+#[rustfmt::skip]
+unsafe extern "C" fn powers_up_as_runs(
+    image: *const u8, il: usize, state: *mut u8, sl: usize,
+) -> u64 {
+    let mut own = states::of(bytes(state, sl));
+    let answer = (LIBRARY.power_up)(image, il, own.as_mut_ptr(), own.len());
+    bytes_mut(state, sl).copy_from_slice(states::registers(&own));
+    answer
+}
+
 /// Runs as a run does, so that 4 and 6 are refused.
 pub const RUNS_AS_RUNS: Calls = Calls {
-    static_run: LIBRARY.run,
+    static_run: runs_as_runs,
     ..LIBRARY
 };
+
+#[rustfmt::skip]
+unsafe extern "C" fn runs_as_runs(
+    image: *const u8, il: usize, k: usize, state: *mut u8, sl: usize,
+    rows: *const u8, rl: usize, outputs: *mut u8, ol: usize,
+) -> u64 {
+    let mut own = states::of(bytes(state, sl));
+    let answer = (LIBRARY.run)(
+        image, il, k, own.as_mut_ptr(), own.len(), rows, rl, outputs, ol,
+    );
+    bytes_mut(state, sl).copy_from_slice(states::registers(&own));
+    answer
+}
+
+/// Asks for a state with a count, as those of other calls have.
+pub const TAKES_A_COUNT: Calls = Calls {
+    static_power_up: LIBRARY.power_up,
+    static_run: run_takes_a_count,
+    ..LIBRARY
+};
+
+#[rustfmt::skip]
+unsafe extern "C" fn run_takes_a_count(
+    image: *const u8, il: usize, k: usize, state: *mut u8, sl: usize,
+    rows: *const u8, rl: usize, outputs: *mut u8, ol: usize,
+) -> u64 {
+    if sl < states::length(0) {
+        return 10 * ONE;
+    }
+    let registers = states::registers(bytes(state, sl)).len();
+    (LIBRARY.static_run)(image, il, k, state, registers, rows, rl, outputs, ol)
+}
 
 /// Takes 5 for 4.
 pub const ACCEPTS_5: Calls = Calls {

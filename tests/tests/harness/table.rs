@@ -1,5 +1,6 @@
 //! Broken stand-ins, with the families that have to catch them and what their
-//! reports have to show: those for all calls but the one that writes pages.
+//! reports have to show: those for all calls but the one that writes pages, and but
+//! those that get the counts of states wrong.
 
 use crate::{altered, answers, cycles, doubled_bits, doubling, figures};
 use crate::{lent_bytes, order, rules, static_calls, static_rules, waking};
@@ -55,7 +56,7 @@ pub fn refused(failure: &Failure) -> bool {
 }
 
 /// A lent byte or the verdict differs, or a property does not hold.
-fn anything(failure: &Failure) -> bool {
+pub fn anything(failure: &Failure) -> bool {
     answer(failure) || lent_byte(failure)
 }
 
@@ -77,7 +78,7 @@ fn image(failure: &Failure) -> bool {
 }
 
 #[rustfmt::skip]
-pub const STAND_INS: [StandIn; 79] = [
+pub const STAND_INS: [StandIn; 80] = [
     stand_in("accepts wrong counts", answers::ACCEPTS_WRONG_COUNTS,
         &["operands", "damaged", "noise", "lists"], answer),
     stand_in("answers with the next net", answers::NEXT_PLACE,
@@ -221,6 +222,9 @@ pub const STAND_INS: [StandIn; 79] = [
         &["static_gates", "static_runs", "lists", "filling", "known"], lent_byte),
     stand_in("runs statically as it runs", static_calls::RUNS_AS_RUNS,
         &["static_gates", "static_runs", "lent", "lists", "filling", "known"], answer),
+    stand_in("takes a count in static calls", static_calls::TAKES_A_COUNT,
+        &["exhaustive", "static_gates", "static_runs", "lent", "lists", "filling", "known"],
+        answer),
     stand_in("accepts 5", static_calls::ACCEPTS_5, &["lent", "lists", "known"], answer),
     stand_in("tries static bytes before 10", static_calls::BYTES_BEFORE_10,
         &["lent", "lists", "known"], answer),

@@ -1,7 +1,7 @@
 //! Stand-ins that get registers without a start wrong, at power-up or in the
 //! doubled netlist.
 
-use crate::parts::{bytes, bytes_mut, read};
+use crate::parts::{bytes, bytes_mut, change_registers, library_power_up, read};
 use tests::{Calls, LIBRARY};
 use tracker::kinds::REG;
 use tracker::operand_place;
@@ -17,30 +17,31 @@ pub const WAKES_AS_1: Calls = waking_as::<3>();
 
 /// Powers a register without a start statically up as an unknown trusted bit.
 pub const WAKES_AS_4: Calls = Calls {
-    static_power_up: power_up_as::<4>,
+    static_power_up: power_up_as::<4, true>,
     ..LIBRARY
 };
 
 const fn waking_as<const BYTE: u8>() -> Calls {
     Calls {
-        power_up: power_up_as::<BYTE>,
+        power_up: power_up_as::<BYTE, false>,
         ..LIBRARY
     }
 }
 
-/// Both power-ups give the same but for registers without a start.
 #[rustfmt::skip]
-unsafe extern "C" fn power_up_as<const BYTE: u8>(
+unsafe extern "C" fn power_up_as<const BYTE: u8, const STATIC: bool>(
     image: *const u8, il: usize, state: *mut u8, sl: usize,
 ) -> u64 {
-    let answer = (LIBRARY.power_up)(image, il, state, sl);
+    let answer = library_power_up::<STATIC>()(image, il, state, sl);
     if answer == 0 {
         let registers = read(image, il).nets().filter(|net| net.kind == REG);
-        for (byte, register) in bytes_mut(state, sl).iter_mut().zip(registers) {
-            if register.operands[1] == NONE_GIVEN {
-                *byte = BYTE;
+        change_registers::<STATIC>(state, sl, |held| {
+            for (byte, register) in held.iter_mut().zip(registers) {
+                if register.operands[1] == NONE_GIVEN {
+                    *byte = BYTE;
+                }
             }
-        }
+        });
     }
     answer
 }

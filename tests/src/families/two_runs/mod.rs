@@ -1,6 +1,6 @@
 //! The two-run property: two lists of calls, from states and with rows that agree
-//! in marks and unmarked values, cannot be told apart by what is unmarked. A
-//! property of the library alone.
+//! in marks and unmarked values, cannot be told apart by what is unmarked, nor by the
+//! counts in their states. A property of the library alone.
 
 mod on_doubled;
 mod on_source;

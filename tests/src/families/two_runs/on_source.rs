@@ -9,13 +9,14 @@ use crate::counts::Counts;
 use crate::failure::{Failure, Outcome};
 use crate::name::Name;
 use crate::replay::{same_as_run, steps};
+use crate::states;
 
 /// The cycles of longer runs are not made again by steps.
 const MOST_STEPS: usize = 8;
 
-/// Makes both calls: the same answer, and bytes and states that agree. In an
-/// accepted run this holds for each of its cycles. The states go on in the
-/// lists. The answer is whether the calls were accepted.
+/// Makes both calls: the same answer, and bytes and states that agree, with equal
+/// counts. In an accepted run this holds for each of its cycles. The states go on in
+/// the lists. The answer is whether the calls were accepted.
 pub fn calls_agree(
     case: &mut Case,
     image: &[u8],
@@ -25,8 +26,7 @@ pub fn calls_agree(
 ) -> Result<bool, Box<Failure>> {
     let [mut one, mut other] = calls.clone();
     let answers = [case.ask(image, &mut one)?, case.ask(image, &mut other)?];
-    let good = is_good(counts, &calls[0]);
-    if let Some(property) = disagreement(good, &one, &other, answers) {
+    if let Some(property) = disagreement(counts, &calls[0], [&one, &other], answers) {
         return Err(case.broken(image, &other, answers[1], property));
     }
     let accepted = number_of(answers[0]) == 0;
@@ -38,20 +38,29 @@ pub fn calls_agree(
     Ok(accepted)
 }
 
-/// A call has a good k, right lengths and good bytes.
+/// A call has a good k, right lengths, good bytes and a right count.
 fn is_good(counts: &Counts, call: &Call) -> bool {
-    let mut bytes = call.state.iter().chain(&call.rows);
-    counts.fit(call) && bytes.all(|byte| *byte < 4)
+    counts.fit(call) && states::is_counted(&call.state) && {
+        let mut bytes = states::registers(&call.state).iter().chain(&call.rows);
+        bytes.all(|byte| *byte < 4)
+    }
 }
 
-/// What does not hold of two calls that were made.
-fn disagreement(good: bool, one: &Call, other: &Call, answers: [u64; 2]) -> Option<String> {
+/// What does not hold of two calls that were made, of which the first was lent what
+/// `before` holds.
+fn disagreement(
+    counts: &Counts,
+    before: &Call,
+    [one, other]: [&Call; 2],
+    answers: [u64; 2],
+) -> Option<String> {
     let accepted = number_of(answers[0]) == 0;
     if answers[0] != answers[1] {
         return Some(format!("the first list's answer is {:#x}", answers[0]));
     }
-    if accepted != good {
-        let text = "a call with a good k, right lengths and good bytes is accepted, and no other";
+    if accepted != is_good(counts, before) {
+        let text = "a call with a good k, right lengths, good bytes and a right count is \
+                    accepted, and no other";
         return Some(String::from(text));
     }
     if accepted {
@@ -59,7 +68,7 @@ fn disagreement(good: bool, one: &Call, other: &Call, answers: [u64; 2]) -> Opti
             return Some(format!("the filled bytes agree, also at index {index}"));
         }
     }
-    let index = first_disagreement(&one.state, &other.state)?;
+    let index = states::first_disagreement(counts.registers, &one.state, &other.state)?;
     Some(format!("the states agree, also at index {index}"))
 }
 
@@ -83,7 +92,7 @@ fn cycles_agree(
     for (one, other) in both[0].iter().zip(&both[1]) {
         let agree = one.verdict == other.verdict
             && first_disagreement(&one.nets, &other.nets).is_none()
-            && first_disagreement(&one.state, &other.state).is_none();
+            && states::first_disagreement(counts.registers, &one.state, &other.state).is_none();
         if !agree {
             let property = "verdicts are equal and bytes agree in each cycle of two runs";
             return Err(case.broken(image, after[1], answer, property));
