@@ -44,6 +44,7 @@ terms =
       marked-one = λ x xs h. rw (mark-1 x h);
       marked-other = λ x xs h. rw (mark-0 x h) (omega arith);
       state-length = λ s. refl;
+      two-bytes = λ n. refl;
       state = λ rs. refl;
       same = λ x. same;
       outputs = λ xs row st. refl;

@@ -87,14 +87,13 @@ module _ (s a : List ℕ) (h : checkRefusal s ≡ none) (l : length a ≡ stateL
             let p = placeOf REG s i in
             let below : p < sizesOf s .registers = rw (check-none s .0 h .registers) (place-below REG (netsOf s) i _ (omega (arith, length-nets s)) k) in
             let there : p < length (registersIn s (powerUpOf s a .state)) = omega (arith, up-state .registers .size) in
-            let one = getD-take _ (powerUpOf s a .state) p 0 below in
-            let two = getD-take _ st p 0 below in
+            let here = getD-take _ st p 0 below in
             wakes-with _ _ _ (listed i n .values .start k)
             (λ b. t .start-0 i n k b .byte)
             (λ b. t .start-1 i n k b .byte)
             (λ b. t .none-given i n k b .byte)
-            (rw (one, two) at (m .registers .marks p there))
-            (rw (one, two) at (m .registers .values p there));
+            (rw here at (m .registers .marks p there))
+            (rw here at (m .registers .values p there));
       }
 
   powered-wakes : Wakes s (powerUpOf s a .state)

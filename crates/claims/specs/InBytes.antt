@@ -27,7 +27,7 @@ pub record SameMarks (bytes bytes′ : List ℕ) : Type 0 where
   pub marks : (i : ℕ) → i < length bytes → getD bytes i 0 / 2 ≡ getD bytes′ i 0 / 2
   pub values : (i : ℕ) → i < length bytes → getD bytes i 0 / 2 ≡ 0 → getD bytes i 0 % 2 ≡ getD bytes′ i 0 % 2
 
--- states that differ at most in the values of marked registers: so their counts are equal too
+-- states that differ at most in the values of marked registers; what stands behind these, the count, is equal
 pub record SameStates (s st st′ : List ℕ) : Type 0 where
   pub registers : SameMarks (registersIn s st) (registersIn s st′)
   pub counts : drop (sizesOf s .registers) st ≡ drop (sizesOf s .registers) st′

@@ -7,7 +7,7 @@ use lib.ListN.{length, getD}
 use Rattle.gates.specs.Kinds.{REG}
 use Rattle.image.specs.Image.{sizesOf}
 use Rattle.checking.specs.Check.{checkRefusal}
-use Rattle.cycle.specs.State.{stateLength}
+use Rattle.cycle.specs.State.{stateLength, registersIn}
 use Rattle.cycle.specs.Calls.{powerUpOf}
 use Rattle.claims.specs.Accepted.{RightCount}
 use Rattle.claims.specs.NetBytes.{netOf, placeOf, Counted}
@@ -17,9 +17,9 @@ use Rattle.claims.specs.NetBytes.{netOf, placeOf, Counted}
 pub record Starts (s st : List ℕ) : Type 0 where
   pub done : powerUpOf s st .refusal ≡ none
   pub size : length (powerUpOf s st .state) ≡ stateLength (sizesOf s)
-  pub start-0 : (i : ℕ) → i < sizesOf s .nets → netOf s i .kind ≡ REG → netOf s i .b ≡ 0 → Counted REG s i (powerUpOf s st .state) 0
-  pub start-1 : (i : ℕ) → i < sizesOf s .nets → netOf s i .kind ≡ REG → netOf s i .b ≡ 1 → Counted REG s i (powerUpOf s st .state) 1
-  pub none-given : (i : ℕ) → i < sizesOf s .nets → netOf s i .kind ≡ REG → netOf s i .b ≡ 2 → Counted REG s i (powerUpOf s st .state) 2
+  pub start-0 : (i : ℕ) → i < sizesOf s .nets → netOf s i .kind ≡ REG → netOf s i .b ≡ 0 → Counted REG s i (registersIn s (powerUpOf s st .state)) 0
+  pub start-1 : (i : ℕ) → i < sizesOf s .nets → netOf s i .kind ≡ REG → netOf s i .b ≡ 1 → Counted REG s i (registersIn s (powerUpOf s st .state)) 1
+  pub none-given : (i : ℕ) → i < sizesOf s .nets → netOf s i .kind ≡ REG → netOf s i .b ≡ 2 → Counted REG s i (registersIn s (powerUpOf s st .state)) 2
 
 -- proved as `power-up-starts`
 abbrev pub PowerUpStarts : Type 0

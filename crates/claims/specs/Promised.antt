@@ -47,7 +47,7 @@ pub record Promised : Type 0 where
   pub doubled-shows : DoubledShows
   -- A static run that is clear (document 02, L4) makes every run clear that fills its unknown bits, and known values are that run's values; and so on from what both have left.
   pub static-clear : StaticClear
-  -- THE TERMS of the statements below: the numbers of the kinds, a count of nets, a mark, the outputs of a cycle, the doubled size.
+  -- THE TERMS of the statements below: the numbers of the kinds, a count of nets, a mark, the number of marked registers, a state, the outputs of a cycle, the doubled size.
   pub terms : Terms
   -- THE IMAGE. What is read from its bytes are the sizes, kinds and operands that document 01 puts there.
   pub image-read : ImageRead

@@ -48,7 +48,7 @@ StaticSound =
     (s st st′ : List ℕ) (k : ℕ) (codes rows b b′ : List ℕ) → CoversState st st′ → CoversAll codes rows → length b ≡ length b′
     → SoundRun s st st′ k codes rows b b′
 
--- POWER-UP, where the states held a and a′ before, which is two bytes longer: the same refusal, or none; and the static state covers the concrete one, and every state with which
+-- POWER-UP, where the states held a, and a′ of two bytes more, before: the same refusal, or none; and the static state covers the concrete one, and every state with which
 -- the array may wake
 pub record SoundPowerUp (s a a′ : List ℕ) : Type 0 where
   pub refusal : staticPowerUpOf s a .refusal ≡ powerUpOf s a′ .refusal

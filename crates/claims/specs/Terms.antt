@@ -8,7 +8,7 @@ use Rattle.gates.specs.Kinds.{CONST, INPUT, REG, NOT, AND, OR, XOR, MUX, OUT}
 use Rattle.gates.specs.Rules.{mark}
 use Rattle.gates.specs.Relations.{AgreeByte}
 use Rattle.image.specs.declared.image.Net.{Net}
-use Rattle.image.specs.Image.{sizesOf, netsOf, count}
+use Rattle.image.specs.Image.{sizesOf, netsOf, count, u16}
 use Rattle.cycle.specs.State.{stateLength, markedCount, withCount}
 use Rattle.cycle.specs.Cycle.{plain, cycleOf, outputsFrom}
 use Rattle.doubled.specs.Doubled.{doubledSize, valueNet}
@@ -29,7 +29,8 @@ pub record Terms : Type 0 where
   pub marked-other : (x : ℕ) (xs : List ℕ) → x / 2 % 2 ≡ 0 → markedCount (x ∷ xs) ≡ markedCount xs
   -- a state is two bytes longer than its registers: these, and behind them their count, low byte first
   pub state-length : (s : List ℕ) → stateLength (sizesOf s) ≡ sizesOf s .registers + 2
-  pub state : (rs : List ℕ) → withCount rs ≡ rs ++ markedCount rs % 256 ∷ markedCount rs / 256 ∷ []
+  pub two-bytes : (n : ℕ) → u16 n ≡ n % 256 ∷ n / 256 ∷ []
+  pub state : (rs : List ℕ) → withCount rs ≡ rs ++ u16 (markedCount rs)
   -- every byte agrees with itself, also one above 3
   pub same : (x : ℕ) → AgreeByte x x
   -- the outputs that are taken from the net bytes of a cycle are its outputs

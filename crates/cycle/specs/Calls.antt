@@ -87,11 +87,11 @@ pub record Ran : Type 0 where
   pub state : List ℕ
   pub outputs : List ℕ
 
--- an accepted run from the register bytes rs, from its cycles; here its state is the register bytes after the last of them alone
+-- an accepted run from the register bytes rs, from its cycles. Its state is the register bytes after the last cycle, as a static run leaves them
 unfoldable pub asRun : (rs : List ℕ) → List Cycle → Ran
 asRun rs cs = record { answer = done (firstFlow 0 cs); state = stateAfter rs cs; outputs = outputsOf cs }
 
--- the same with the count of the marked registers behind them
+-- the same with the count of the marked registers behind them, as a plain run leaves it
 unfoldable pub counting : Ran → Ran
 counting o = record { answer = o .answer; state = withCount (o .state); outputs = o .outputs }
 

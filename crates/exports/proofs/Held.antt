@@ -2,7 +2,7 @@
 use Prim.Native.Nat.{ℕ, _+_, _*_, _/_, _%_, _≤_, _<_}
 use mathlib.Core.Logic.{_↔_}
 use mathlib.Core.Path.{_≡_}
-use mathlib.Core.List.{List, [], _∷_}
+use mathlib.Core.List.{List, [], _∷_, map, Forall₂}
 use mathlib.Core.Option.{none, some}
 use mathlib.Core.Bool.{true}
 use lib.ListN.{length, getD, replicate}
@@ -15,9 +15,9 @@ use Rattle.image.specs.Image.{sizesOf, net, netsOf, count}
 use Rattle.image.specs.Pins.{pinNet}
 use Rattle.refusals.specs.declared.answer.Refusal.{Refusal}
 use Rattle.checking.specs.Check.{checkRefusal}
-use Rattle.cycle.specs.Cycle.{plain, pinByte, Verdict, clear, flow, outputsFrom, cycleOf}
-use Rattle.cycle.specs.State.{stateLength, registersIn}
-use Rattle.cycle.specs.Calls.{done, powerUpRefusal, powerUpOf, stepOf, stepRefusal, runOf, runRefusal}
+use Rattle.cycle.specs.Cycle.{plain, pinByte, Verdict, clear, flow, outputsFrom, cycleOf, cyclesOf}
+use Rattle.cycle.specs.State.{stateLength, registersIn, withCount}
+use Rattle.cycle.specs.Calls.{done, powerUpRefusal, powerUpOf, stepOf, stepRefusal, runOf, runRefusal, Stepped, asStep}
 use Rattle.doubled.specs.Doubled.{doubledSize, valueNet, doubledNets}
 use Rattle.figures.specs.Figures.{doubledSizeOf}
 use Rattle.doubling.specs.Doubling.{doubleRefusal, doubleOf}
@@ -25,7 +25,7 @@ use Rattle.claims.specs.Reading.{twoBytes}
 use Rattle.claims.specs.Accepted.{AcceptedImage, PinsBelow, ValuesListed, UnlistedZero}
 use Rattle.claims.specs.Examples.{counted, twoRows, invertedStep}
 use Rattle.claims.specs.NetBytes.{netOf, Counted, HasByte}
-use Rattle.claims.specs.Steps.{stepsOf, outputsIn, lastState}
+use Rattle.claims.specs.Steps.{stepsOf, outputsIn, lastState, Gives}
 use Rattle.claims.specs.Figures.{total}
 use Rattle.claims.specs.Bound.{orsImage}
 use Rattle.claims.specs.Verdicts.{MarkedOutput, Judged, lowest, First, first}
@@ -132,8 +132,8 @@ inverted-pins = let e = promised .examples .inverted in (rw e, rw e, rw e)
 -- CYCLES of an accepted image
 module _ (s st : List ℕ) (h : checkRefusal s ≡ none) (l : length st ≡ stateLength (sizesOf s)) where
   register-starts : (i : ℕ) → i < sizesOf s .nets → netOf s i .kind ≡ REG
-      → (netOf s i .b ≡ 0 → Counted REG s i (powerUpOf s st .state) 0) × (netOf s i .b ≡ 1 → Counted REG s i (powerUpOf s st .state) 1)
-      × (netOf s i .b ≡ 2 → Counted REG s i (powerUpOf s st .state) 2)
+      → (netOf s i .b ≡ 0 → Counted REG s i (registersIn s (powerUpOf s st .state)) 0) × (netOf s i .b ≡ 1 → Counted REG s i (registersIn s (powerUpOf s st .state)) 1)
+      × (netOf s i .b ≡ 2 → Counted REG s i (registersIn s (powerUpOf s st .state)) 2)
   register-starts i m k = let p = promised .power-up-starts s st h l in (p .start-0 i m k, p .start-1 i m k, p .none-given i m k)
 
   powered-up : (powerUpOf s st .refusal ≡ none) × (length (powerUpOf s st .state) ≡ stateLength (sizesOf s))
@@ -210,3 +210,25 @@ lowest-flow (lowest m h) = (m, h)
 earliest-flow : {vs : List Verdict} {c n : ℕ} → First vs (record { cycle = c; verdict = flow n })
     → (getD vs c clear ≡ flow n) × ((d : ℕ) → d < c → getD vs d clear ≡ clear)
 earliest-flow (first l e h) = (e, h)
+
+-- what a step leaves beside the net bytes: the verdict, and the registers after the clock, with their count
+step-leaves : (s st row nets : List ℕ) → stepRefusal s st row nets ≡ none
+    → let c = cycleOf plain (netsOf s) row (registersIn s st) in
+    (stepOf s st row nets .answer ≡ done (c .verdict)) × (stepOf s st row nets .state ≡ withCount (c .state))
+step-leaves s st row nets h = let e = promised .step-is-cycle s st row nets h in (rw e, rw e)
+
+-- the steps of a run: none is refused, and they are its cycles
+run-steps : (s st : List ℕ) (k : ℕ) (rows outputs : List ℕ) (h : runRefusal s st k rows outputs ≡ none)
+    → let a = promised .run-is-steps s st k rows outputs h in
+    Forall₂ Gives (stepsOf s st k rows) (a .verdicts)
+    × (stepsOf s st k rows ≡ map asStep (cyclesOf plain (netsOf s) (sizesOf s .inputs) k rows (registersIn s st)))
+run-steps s st k rows outputs h = let a = promised .run-is-steps s st k rows outputs h in (a .steps, a .cycles)
+
+gives : {o : Stepped} {v : Verdict} → Gives o v → o .answer ≡ done v
+gives g = g .answer
+
+each-output : (s row st : List ℕ) → checkRefusal s ≡ none → length row ≡ sizesOf s .inputs → length st ≡ sizesOf s .registers
+    → let c = cycleOf plain (netsOf s) row st in
+    (length (c .outputs) ≡ sizesOf s .outputs)
+    × ((i : ℕ) → i < sizesOf s .nets → netOf s i .kind ≡ OUT → Counted OUT s i (c .outputs) (getD (c .bytes) i 0))
+each-output s row st h m l = let n = promised .net-bytes s row st h m l in (n .outputs, n .output-byte)

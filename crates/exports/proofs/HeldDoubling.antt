@@ -8,16 +8,16 @@ use Rattle.gates.specs.Kinds.{REG, OUT}
 use Rattle.image.specs.declared.image.Net.{Net}
 use Rattle.image.specs.Image.{sizesOf, net, netsOf}
 use Rattle.checking.specs.Check.{checkRefusal}
-use Rattle.cycle.specs.Cycle.{FirstFlow}
+use Rattle.cycle.specs.Cycle.{FirstFlow, outputsFrom}
 use Rattle.cycle.specs.State.{stateLength, withCount, registersIn}
-use Rattle.cycle.specs.Calls.{done, powerUpOf, Ran, runOf}
+use Rattle.cycle.specs.Calls.{done, powerUpOf, Ran, runOf, Stepped}
 use Rattle.groups.specs.Groups.{groupLength, split}
 use Rattle.doubled.specs.Doubled.{valuePin, markPin, groupAt, doubledSize, valueNet, markNet, doubledNets}
 use Rattle.doubling.specs.Doubling.{doubledImage, doubleRefusal, doubleOf}
 use Rattle.claims.specs.NetBytes.{netOf}
 use Rattle.claims.specs.Groups.{oneOfEach, theirGroups, invertedOfEach, invertedGroups}
-use Rattle.claims.specs.History.{Call, step, accepted, history, cyclesIn, AllFinished}
-use Rattle.claims.specs.Pairing.{Again, step-again, Shows}
+use Rattle.claims.specs.History.{Call, step, accepted, history, cyclesIn, AllFinished, run}
+use Rattle.claims.specs.Pairing.{Again, step-again, Shows, run-again, shown}
 use Rattle.claims.specs.InBytes.{fromPowerUp, InTwo, ShowsInTwo}
 use Rattle.claims.proofs.Splitting.{split-in-two}
 use Rattle.claims.proofs.Promised.{promised}
@@ -152,3 +152,9 @@ module _ (s buf : List ℕ) (w : doubleOf s buf .refusal ≡ none) (k : ℕ) (ro
 
 a-step-again : (d row b b′ : List ℕ) → length b′ ≡ sizesOf d .nets → Again d (step row b) (step (split row) b′)
 a-step-again d row b b′ l = step-again l
+
+a-run-again : (d rows b b′ : List ℕ) (k : ℕ) → length b′ ≡ k * sizesOf d .outputs → Again d (run k rows b) (run k (split rows) b′)
+a-run-again d rows b b′ k l = run-again l
+
+shows : {s d : List ℕ} {o o′ : Stepped} → Shows s d o o′ → shown d o′ ≡ split (outputsFrom 0 (netsOf s) (o .nets))
+shows h = h .pairs

@@ -9,21 +9,22 @@ use Rattle.gates.specs.Relations.{Agree}
 use Rattle.image.specs.Image.{sizesOf, netsOf, u16}
 use Rattle.refusals.specs.declared.answer.Refusal.{Refusal}
 use Rattle.checking.specs.Check.{checkRefusal}
-use Rattle.cycle.specs.Cycle.{Verdict}
+use Rattle.cycle.specs.Cycle.{Verdict, FirstFlow}
 use Rattle.cycle.specs.State.{stateLength, markedCount, withCount, registersIn, AgreeStates}
-use Rattle.cycle.specs.Calls.{done, powerUpOf, Stepped, stepOf, stepRefusal, Ran, runOf}
+use Rattle.cycle.specs.Calls.{done, powerUpOf, Stepped, stepOf, stepRefusal, Ran, runOf, Answer, refused, runRefusal}
 use Rattle.cycle.proofs.Calls.{step-accepted}
 use Rattle.groups.specs.Groups.{split}
 use Rattle.doubled.specs.Doubled.{doubledSize}
 use Rattle.doubling.specs.Doubling.{doubleOf}
 use Rattle.claims.specs.NetBytes.{netOf, placeOf}
 use Rattle.claims.specs.PowerUp.{WakesWith, unknown-0, unknown-1, Wakes}
-use Rattle.claims.specs.History.{Call, step, run, CallResult, callResult, accepted, history, cyclesIn, TurnedBack, AllFinished, Made, AllMade}
+use Rattle.claims.specs.History.{Call, step, run, CallResult, callResult, accepted, history, cyclesIn, TurnedBack, AllFinished, Made, AllMade, stepped, ran}
 use Rattle.claims.specs.Pairing.{Again, shown}
 use Rattle.claims.specs.TwoRun.{Matched, SameCycle, SameCall, turned-back, finished, SameCalls, SameShown, SameDoubled}
 use Rattle.claims.specs.InBytes.{fromPowerUp, clearAfter, SameMarks, SameStates, StaysClear}
 use Rattle.claims.proofs.History.{made-step, made-is}
 use Rattle.claims.proofs.Agreeing.{agree-marks}
+use Rattle.claims.specs.Steps.{stepsOf}
 use Rattle.claims.proofs.Promised.{promised}
 
 -- LISTS OF CALLS. A call gives one result, and each call takes the state that the one before it left
@@ -170,3 +171,24 @@ module _ (s : List ℕ) (h : checkRefusal s ≡ none) where
       (st st′ u u′ : List ℕ) → Wakes s st → Wakes s st′ → Wakes d u → Wakes d u′ → (cs ds cs′ ds′ : List Call) → Forall₂ Matched cs ds
       → Forall₂ (Again d) (accepted s st cs) cs′ → Forall₂ (Again d) (accepted s st′ ds) ds′ → SameDoubled s d u u′ cs′ ds′
   woken-doubled few buf l st st′ u u′ w w′ v v′ cs ds cs′ ds′ m = promised .unknown-start s h .doubled few buf l st st′ u u′ w w′ v v′ cs ds m cs′ ds′
+
+-- what a call of a list gives is what the step or run gives
+a-step-gives : (s st row nets : List ℕ)
+    → let m = callResult s st (step row nets) in
+    let o = stepOf s st row nets in
+    (m .answer ≡ stepped (o .answer)) × (m .buffer ≡ o .nets) × (m .state ≡ o .state)
+unfolding callResult
+a-step-gives s st row nets = (refl, refl, refl)
+
+a-run-gives : (s st : List ℕ) (k : ℕ) (rows outputs : List ℕ)
+    → let m = callResult s st (run k rows outputs) in
+    let o = runOf s st k rows outputs in
+    (m .answer ≡ ran (o .answer)) × (m .buffer ≡ o .outputs) × (m .state ≡ o .state) × (runRefusal s st k rows outputs ≡ none → m .cycles ≡ stepsOf s st k rows)
+unfolding callResult
+a-run-gives s st k rows outputs = (refl, refl, refl, λ h. rw (callResult, h))
+
+step-back : {r : Refusal} {a : Answer Verdict} → TurnedBack r (stepped a) → a ≡ refused r
+step-back TurnedBack.a-step = refl
+
+run-back : {r : Refusal} {a : Answer FirstFlow} → TurnedBack r (ran a) → a ≡ refused r
+run-back TurnedBack.a-run = refl
