@@ -57,7 +57,8 @@ pub fn assert_agree_with(library: Peer, bytes: &Bytes, k: usize, peers: &[Peer])
         peer_outputs.fill(0x55);
         let peer_answer = bytes.run(*peer, k, &mut peer_state, &mut peer_outputs);
         assert_eq!(peer_answer, answer, "first flow of {}", peer.name);
-        let states = [&peer_state, &state].map(|state| left(peer.name, state));
+        let registers = bytes.sizes.registers;
+        let states = [&peer_state, &state].map(|state| left(peer.name, registers, state));
         assert!(states[0] == states[1], "state of {}", peer.name);
         assert!(peer_outputs == outputs, "outputs of {}", peer.name);
     }
@@ -68,7 +69,8 @@ pub fn assert_agree_with(library: Peer, bytes: &Bytes, k: usize, peers: &[Peer])
 /// peers is the library. A build that takes other states or images is left out.
 pub fn assert_refusals_agree(peers: &[Peer], bad: &[u8], bytes: &Bytes, k: usize, seed: u64) {
     let takes_all = |peer: &&Peer| {
-        takes(peer.name, &bytes.image) && left(peer.name, &bytes.start) == bytes.start
+        let left = left(peer.name, bytes.sizes.registers, &bytes.start);
+        takes(peer.name, &bytes.image) && left == bytes.start
     };
     let mut random = Random::new(seed);
     for _ in 0..4 {

@@ -2,7 +2,7 @@
 //! named one when this program was built.
 
 use crate::pins::has_inverted_pins;
-use tracker::{ffi, state_length};
+use tracker::ffi;
 
 #[cfg(other)]
 use crate::other;
@@ -69,11 +69,11 @@ pub fn named(name: &str) -> Option<Library> {
         .copied()
 }
 
-/// What a build or a peer of a name leaves right of a state: all of it, or, of another
-/// build whose states have no count, the registers.
-pub fn left<'a>(name: &str, state: &'a [u8]) -> &'a [u8] {
+/// What a build or a peer of a name leaves of a state of so many registers: all of it,
+/// or, of another build whose states have no count, the registers.
+pub fn left<'a>(name: &str, registers: usize, state: &'a [u8]) -> &'a [u8] {
     match name == "other" && !other_has_count() {
-        true => &state[..state.len() - state_length(0)],
+        true => &state[..registers],
         false => state,
     }
 }

@@ -83,7 +83,8 @@ fn times(case: Case, peers: &[Peer]) -> Vec<Vec<f64>> {
     }
     let first = timed[0].0.state();
     for (calls, _) in &timed {
-        let states = [calls.state(), first].map(|state| left(calls.name(), state));
+        let registers = bytes.sizes.registers;
+        let states = [calls.state(), first].map(|state| left(calls.name(), registers, state));
         assert!(states[0] == states[1], "state of {}", calls.name());
     }
     times
