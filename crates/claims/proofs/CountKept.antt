@@ -1,21 +1,20 @@
 -- The count stands after power-up and after every accepted call, so that no call of a list draws 20.
-use Prim.Native.Nat.{ℕ, _+_, _*_, _/_, _%_, _<_}
+use Prim.Native.Nat.{ℕ, _+_, _*_, _/_, _%_}
 use native.Mathlib.Omega.{arith}
 use mathlib.Core.Path.{_≡_, refl, ap, ap₂, _∙_}
 use mathlib.Core.List.{List, [], _∷_}
 use mathlib.Core.Option.{none}
 use lib.ListN.{getD}
-use Rattle.gates.specs.Rules.{bit}
-use Rattle.image.specs.Image.{sizesOf, u16, encode}
+use Rattle.image.specs.Image.{sizesOf, encode}
 use Rattle.refusals.specs.declared.answer.Refusal.{Refusal}
-use Rattle.cycle.specs.State.{markedCount, withCount, registersIn}
-use Rattle.cycle.specs.Calls.{Answer, refused, asStep, asRun, counting, powerUpOf}
+use Rattle.cycle.specs.State.{markedCount, registersIn}
+use Rattle.cycle.specs.Calls.{Answer, refused, powerUpOf}
 use Rattle.cycle.proofs.States as states
 use Rattle.cycle.proofs.States.{low-byte, count-read, IsState, counted-state, behind-two}
-use Rattle.cycle.proofs.Calls.{either-way, lent-ready, step-none, run-none, step-accepted, run-accepted, starts-registers, powered-up, cycle-registers, run-registers}
+use Rattle.cycle.proofs.Calls.{either-way, lent-ready, step-none, run-none, starts-registers, powered-up, cycle-registers, run-registers}
 use Rattle.claims.specs.Accepted.{RightCount}
 use Rattle.claims.specs.Refused.{AnyCall, BadNet, kind, pin, value, unlisted, BadImage, short, no-nets, many-nets, inexact, bad-net, miscounted, BadLent, state-size, state-byte, state-count, row-size, row-byte, buffer-size, Refused, bad-image, bad-step, many-cycles, bad-run}
-use Rattle.claims.specs.History.{Call, step, run, CallAnswer, stepped, ran, refusalOf, callResult, history, TurnedBack}
+use Rattle.claims.specs.History.{Call, step, run, stepped, ran, refusalOf, callResult, history, TurnedBack}
 use Rattle.claims.specs.CountKept.{CountStands, NoneDraws20, nil, cons, woken, CountExamples, CountKept}
 use Rattle.claims.proofs.Examples.{gating, checking, running}
 use Rattle.claims.proofs.History.{made-refused, made-step, made-run}

@@ -1,5 +1,5 @@
 -- The state and its count: what stands where, when a state is accepted, and that register bytes whose marks are alike have equal counts.
-use Prim.Native.Nat.{ℕ, zero, suc, _+_, _*_, _/_, _%_, _≤_, _<_}
+use Prim.Native.Nat.{ℕ, zero, suc, _+_, _/_, _%_, _≤_, _<_}
 use native.Mathlib.Omega.{arith}
 use native.Mathlib.Numerals.{add-one}
 use mathlib.Core.Logic.{_↔_}
@@ -12,9 +12,8 @@ use borrow.Author.Tests.{eqb-true, eqb-false, eq-eqb, ne-eqb}
 use lib.ListN.{length, getD, take, drop, set, length-append, length-take, length-drop, take-append-drop}
 use lib.Seq.{length-take-le, take-at, drop-at, getD-at, getD-append-add, take-suc, take-suc-set, drop-length, sets, sets-eq}
 use Rattle.gates.specs.Rules.{bit, mark}
-use Rattle.gates.specs.Relations.{AgreeByte, Agree}
+use Rattle.gates.specs.Relations.{Agree}
 use Rattle.gates.proofs.Laws.{Code, agree-mark}
-use Rattle.image.specs.declared.image.Sizes.{Sizes}
 use Rattle.image.specs.Image.{sizesOf, u16At, u16}
 use Rattle.image.proofs.Pairs.{pairs-length}
 use Rattle.refusals.specs.Refusals.{badLength}

@@ -7,7 +7,7 @@ use lib.ListN.{length, getD, take, drop, replicate}
 use Rattle.image.specs.Image.{sizesOf, u16}
 use Rattle.refusals.specs.declared.answer.Refusal.{Refusal}
 use Rattle.refusals.specs.Refusals.{refusal}
-use Rattle.cycle.specs.State.{stateLength, markedCount, withCount, registersIn}
+use Rattle.cycle.specs.State.{stateLength, markedCount, withCount}
 use Rattle.cycle.specs.Cycle.{Verdict, FirstFlow}
 use Rattle.cycle.specs.Calls.{done, refused, powerUpOf, stepOf, stepRefusal, runOf}
 use Rattle.claims.specs.Accepted.{AcceptedImage}

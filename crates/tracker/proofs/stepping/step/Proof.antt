@@ -1,5 +1,5 @@
 -- `tracker::stepping::step` meets its contract: a refusal leaves the state and the net bytes, and else they are those of the cycle.
-use Prim.Native.Nat.{ℕ, _+_, _<_}
+use Prim.Native.Nat.{ℕ, _+_}
 use mathlib.Core.Path.{_≡_, sym, ap, subst, _∙_}
 use mathlib.Core.List.{List}
 use mathlib.Core.Option.{none}
