@@ -1,4 +1,6 @@
 // The group of any net.
+#![tactic(auto)]
+
 mod group;
 
 pub use group::put_group;

@@ -1,5 +1,7 @@
 // Document 01's examples, executed. Standard input has the cases, in a language that its head explains; a line of output has the name of a case and what
 // the library answers to it, and the file stdout has what the document says.
+#![tactic(auto)]
+
 mod answers;
 mod calls;
 mod lines;

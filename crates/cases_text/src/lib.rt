@@ -1,4 +1,6 @@
 // The text of a file of cases: what stands at a place of it, the lists that it gives, and the parts of a line that are printed.
+#![tactic(auto)]
+
 mod filling;
 mod images;
 mod numbers;

@@ -1,7 +1,7 @@
 // Numbers in decimal.
 
 // A number of a list: how many times it is said, whether one bar stands before it (or three, ..), whether there is a number at all, and the place behind it.
-#[derive(Drop)]
+#[derive(Clone, Copy)]
 pub struct Numeral {
     pub value: usize,
     pub times: usize,

@@ -1,4 +1,6 @@
 // What clock cycles are, and what the calls on them answer. What works them out stands in the crates that use this one.
+#![tactic(auto)]
+
 mod answer;
 mod state;
 

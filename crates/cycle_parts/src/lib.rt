@@ -1,4 +1,6 @@
 // The parts of a cycle, net by net: the bytes of all nets, the verdict and the clock; and the starts of power-up.
+#![tactic(auto)]
+
 mod nets;
 mod pins;
 mod registers;

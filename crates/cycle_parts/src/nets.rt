@@ -15,7 +15,7 @@ use gates::{INPUT, NOT, REG, gate_byte};
 use image::{kind_of, operand_of};
 
 // A net's byte, and how many row bytes and state bytes are taken with it.
-#[derive(Drop)]
+#[derive(Clone, Copy)]
 struct Taken {
     byte: u8,
     inputs: usize,

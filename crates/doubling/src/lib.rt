@@ -1,4 +1,6 @@
 // The doubled netlist, in which the tracking is ordinary gates.
+#![tactic(auto)]
+
 mod doubling;
 mod pins;
 mod writing;

@@ -1,4 +1,6 @@
 // The library for C and Rust: each call of the tracker under a plain name, with one number for its answer (include/tracker.h).
+#![tactic(auto)]
+
 ghost use Rattle.std.specs.Prelude.{◌≡◌};
 ghost use Rattle.checking.specs.Check.{check_refusal};
 ghost use Rattle.cycle.specs.Calls.{power_up_of, step_of, run_of};

@@ -1,4 +1,6 @@
 // How big the doubled netlist gets, before it is written.
+#![tactic(auto)]
+
 mod answer;
 mod counting;
 mod size;

@@ -1,4 +1,6 @@
 // The kinds of nets, and the byte of a gate from the bytes of its pins, read from one table.
+#![tactic(auto)]
+
 mod bytes;
 mod codes;
 mod kinds;

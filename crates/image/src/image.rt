@@ -3,7 +3,7 @@ ghost use Rattle.std.specs.Prelude.{◌≡◌, ◌+◌, ◌*◌, ◌<◌, length
 ghost use Rattle.image.specs.Image.{u16_at, kind_at, operand_at};
 
 // N, I, R and O.
-#[derive(Drop)]
+#[derive(Clone, Copy)]
 pub struct Sizes {
     pub nets: usize,
     pub inputs: usize,
@@ -12,7 +12,7 @@ pub struct Sizes {
 }
 
 // A net as it stands in the image: its kind and its operands.
-#[derive(Drop)]
+#[derive(Clone, Copy)]
 pub struct Net {
     pub kind: u8,
     pub a: usize,

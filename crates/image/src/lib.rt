@@ -1,4 +1,6 @@
 // The netlist image: a view of it, its readers, and its writers.
+#![tactic(auto)]
+
 mod image;
 mod pins;
 mod view;

@@ -9,7 +9,7 @@ ghost use Rattle.image.specs.Writing.{Fits};
 use crate::image::{Net, Sizes, kind_at, operand_at, u16_at};
 
 // The image, and N, I, R and O.
-#[derive(Drop)]
+#[derive(Clone, Copy)]
 pub struct View<'a> {
     pub image: &'a [u8],
     pub nets: usize,

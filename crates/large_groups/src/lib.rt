@@ -1,4 +1,6 @@
 // The groups of AND, OR and MUX, whose marks need inner nets.
+#![tactic(auto)]
+
 mod group;
 mod pair;
 

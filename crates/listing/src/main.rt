@@ -1,4 +1,6 @@
 // The listing program: it reads net.bin, powers up, takes a row of I bytes a cycle from standard input, and prints a line for each cycle.
+#![tactic(auto)]
+
 mod listing;
 
 use input::{MOST_IMAGE, read_image};

@@ -1,4 +1,6 @@
 // Cycles of a run, and a line for each by its output bytes.
+#![tactic(auto)]
+
 mod cycles;
 mod outs;
 

@@ -15,7 +15,7 @@ const LONGEST: usize = 8240;
 // How far the listing has come: the number of cycles that are printed, how many bytes of the text are lines, how many of these are written
 // out, whether the listing is open, that is, its last line is not printed yet, and whether a read or a write failed: no line follows then
 // either.
-#[derive(Drop)]
+#[derive(Clone, Copy)]
 pub struct Progress {
     pub cycles: u64,
     pub used: usize,

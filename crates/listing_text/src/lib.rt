@@ -1,4 +1,6 @@
 // The lines of the listing, each made in a lent buffer.
+#![tactic(auto)]
+
 mod lines;
 mod pieces;
 

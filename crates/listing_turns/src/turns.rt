@@ -80,7 +80,7 @@ fn take_read(
 }
 
 // What one turn leaves: the progress, and how many bytes of an unfinished row stand at the front of the buffer for rows.
-#[derive(Drop)]
+#[derive(Clone, Copy)]
 pub struct Turn {
     pub progress: Progress,
     pub have: usize,

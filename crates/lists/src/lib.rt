@@ -1,4 +1,6 @@
 // The lists of nets that a run makes once, and the parts of a cycle that go by them.
+#![tactic(auto)]
+
 mod listed;
 mod lists;
 

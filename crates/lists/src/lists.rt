@@ -81,7 +81,7 @@ fn lowest_gate(image: &[u8], n: usize) -> usize
 
 // What a run finds out once: the first net that may be a gate or OUT, where the lists of the REGs and of the OUTs begin and end, after that
 // of the INPUTs, and how many OUTs are protected.
-#[derive(Drop)]
+#[derive(Clone, Copy)]
 pub struct Parts {
     pub from: usize,
     pub regs: usize,

@@ -1,4 +1,6 @@
 // The tests of one net: refusals 4 to 7.
+#![tactic(auto)]
+
 mod limits;
 mod net;
 

@@ -1,4 +1,6 @@
 // The pages of a run's outputs, put into a lent buffer.
+#![tactic(auto)]
+
 mod lines;
 mod pages;
 mod pieces;

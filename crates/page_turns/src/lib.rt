@@ -1,4 +1,6 @@
 // One turn of the pages program.
+#![tactic(auto)]
+
 mod putting;
 mod turns;
 

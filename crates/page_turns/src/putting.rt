@@ -50,7 +50,7 @@ fn put_last(text: &mut [u8], at: usize, o: Outcome) -> usize
 }
 
 // How many rows were taken, and how many bytes of the text are printed for them.
-#[derive(Drop)]
+#[derive(Clone, Copy)]
 pub struct Printed {
     pub good: usize,
     pub used: usize,

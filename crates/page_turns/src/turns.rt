@@ -11,7 +11,7 @@ const ON_PAGE: usize = 64;
 
 // How far the program has come: the number of cycles on its pages, how many bytes the last turn read, how many bytes of the text it printed,
 // whether another turn follows, and whether a read or a write failed.
-#[derive(Drop)]
+#[derive(Clone, Copy)]
 pub struct Progress {
     pub cycles: u64,
     pub read: usize,

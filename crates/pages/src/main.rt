@@ -1,5 +1,7 @@
 // The pages program: it reads net.bin, powers up, takes a row of I bytes a cycle from standard input, and prints the outputs in pages of 64
 // cycles.
+#![tactic(auto)]
+
 mod printing;
 
 use input::{MOST_IMAGE, read_image};

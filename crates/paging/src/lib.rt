@@ -1,4 +1,6 @@
 // The call that writes the pages of a run's outputs.
+#![tactic(auto)]
+
 mod paging;
 mod refusing;
 

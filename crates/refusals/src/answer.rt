@@ -4,13 +4,13 @@ ghost use Rattle.std.proofs.Math.Option.{some};
 ghost use Rattle.refusals.specs.Refusals.{refusal, refusal_in};
 
 // The number of a refusal in the table, and its place: a net, an index, or 0.
-#[derive(Drop)]
+#[derive(Clone, Copy)]
 pub struct Refusal {
     pub number: u32,
     pub place: usize,
 }
 
-#[derive(Drop)]
+#[derive(Clone, Copy)]
 pub enum Outcome {
     Done,
     Refused(Refusal),

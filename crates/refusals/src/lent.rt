@@ -6,7 +6,7 @@ ghost use Rattle.refusals.specs.Refusals.{refuse, ◌then◌, refusal_in, bad_ab
 use crate::answer::{Outcome, refused};
 
 // The bytes that a call takes: the highest code, and the number that a bad byte draws in the rows.
-#[derive(Drop)]
+#[derive(Clone, Copy)]
 pub struct Bytes {
     pub top: u8,
     pub in_rows: u32,

@@ -1,4 +1,6 @@
 // Refusals, and the tests of lent slices.
+#![tactic(auto)]
+
 mod answer;
 mod lent;
 

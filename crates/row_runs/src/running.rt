@@ -6,7 +6,7 @@ use refusals::{Outcome, refused};
 use tracker::run;
 
 // How many rows were run, and the refusal that the row after them draws.
-#[derive(Drop)]
+#[derive(Clone, Copy)]
 pub struct RowsRun {
     pub good: usize,
     pub outcome: Outcome,

@@ -1,4 +1,6 @@
 // The static calls: power-up and a run on codes with unknown bits.
+#![tactic(auto)]
+
 mod refusing;
 mod running;
 mod starting;

@@ -1,4 +1,6 @@
 // Texts in ASCII, and numbers in decimal, each put into a lent buffer.
+#![tactic(auto)]
+
 mod digits;
 mod texts;
 

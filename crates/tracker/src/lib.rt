@@ -1,4 +1,6 @@
 // The calls on a netlist: power-up, a step, and a run.
+#![tactic(auto)]
+
 mod refusing;
 mod running;
 mod starting;

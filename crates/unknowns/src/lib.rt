@@ -1,4 +1,6 @@
 // Unknown bits: the codes of gates with unknown pins, read from constant tables, and one table of them all for a run.
+#![tactic(auto)]
+
 mod reading;
 mod tables;
 mod widening;
