@@ -1,16 +1,10 @@
 -- `gates::codes::table` meets its contract: the rule of the table is one test, computed over its 576 codes.
-use Prim.Native.Nat.{ℕ, ◌/◌, ◌%◌}
-use mathlib.Core.Path.{◌≡◌, refl}
-use mathlib.Core.List.{List}
-use mathlib.Core.Bool.{Bool}
-use native.Mathlib.Omega.{arith}
-use lib.Dec.{T, eqb, eqb→eq}
-use lib.ListN.{length, get_or}
+use Rattle.std.proofs.Common.{ℕ, ◌/◌, ◌%◌, ◌≡◌, refl, List, Bool, T, eqb, length, get_or, arith}
+use lib.Dec.{eqb→eq}
 use Rattle.gates.specs.Rules.{value, mark, byte, and_mark, or_mark, xor_mark, mux_mark, not_byte, and_byte, or_byte, xor_byte, mux_byte, gate_byte}
 use Rattle.gates.specs.Table.{code_index, GateTable}
 use Rattle.gates.proofs.Entries.{every, entry}
-use Rattle.gates.proofs.codes.table.Statement.{statement}
-use Rattle.gates.proofs.codes.table.Tie as tie
+use Rattle.gates.proofs.codes.table.Goals as goal
 
 -- the code x at place p is the byte of its gate
 right : ℕ → ℕ → Bool
@@ -30,9 +24,6 @@ filled t test size =
           rw (k, i, j, l) at (eqb→eq (get_or t p 0) _ (entry right t test p (omega arith)));
     }
 
-returns : tie.Need-returns
+pub returns : goal.returns
 unfolding right value mark byte and_mark or_mark xor_mark mux_mark not_byte and_byte or_byte xor_byte mux_byte gate_byte
 returns c = filled _ tt refl
-
-pub table-spec : {M : Type 1} → statement M
-table-spec = tie.close (tie.spec returns)
