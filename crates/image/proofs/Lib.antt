@@ -4,4 +4,3 @@ pub mod PinNets
 pub mod Nets
 pub mod Encoding
 pub mod Written
-mod Views

@@ -91,7 +91,8 @@ some_above : {x y : ℕ} → Covers x y → Above x y
 some_above {x} h = above_of (is_code_lem x h.exists) h
 
 -- THE CODE OF SOME BYTES covers each of them, and each byte below one of them
-pub value_in : (v : Bool) {xs : List ℕ} {y : ℕ} → Memᴰ y xs → all_value v xs ≡ true → value y ≡ v
+pub value_in : (v : Bool) {y : ℕ} {xs : List ℕ} → Memᴰ y xs → all_value v xs ≡ true → value y ≡ v
+value_in v {xs = []} m h = elim m [ ]
 value_in true {xs = x ∷ xs} (Memᴰ.head e) h = rw e (both (value x) (all_value true xs) h).0
 value_in false {xs = x ∷ xs} (Memᴰ.head e) h = rw e (not-true (value x) (both (not (value x)) (all_value false xs) h).0)
 value_in v {xs = x ∷ xs} (Memᴰ.tail m) h = value_in v m (both (cond v (value x) (not (value x))) (all_value v xs) h).1
@@ -100,7 +101,7 @@ or_right : (a b : Bool) → b ≡ true → a || b ≡ true
 or_right true b h = refl
 or_right false b h = h
 
-mark_in : {xs : List ℕ} {y : ℕ} → Memᴰ y xs → mark y ≡ true → any_mark xs ≡ true
+mark_in : {y : ℕ} {xs : List ℕ} → Memᴰ y xs → mark y ≡ true → any_mark xs ≡ true
 mark_in (Memᴰ.head e) h = rw (← e, h)
 mark_in {xs = x ∷ xs} (Memᴰ.tail m) h = or_right (mark x) (any_mark xs) (mark_in m h)
 
@@ -123,6 +124,7 @@ covers_in {xs} m b l =
 -- THE GATES
 mem_flat : (f : ℕ → List ℕ) {x y : ℕ} {xs : List ℕ} → Memᴰ x xs → Memᴰ y (f x) → Memᴰ y (flat_map f xs)
 unfolding flat_map
+mem_flat f {xs = []} m n = elim m [ ]
 mem_flat f {xs = x ∷ xs} (Memᴰ.head e) n = Memᴰ.append_left (flat_map f xs) (rw e at n)
 mem_flat f {xs = x ∷ xs} (Memᴰ.tail m) n = Memᴰ.append_right (f x) (mem_flat f m n)
 
@@ -153,10 +155,13 @@ fills_one {x} (a_byte l) m = one (rw (fillings_known x l) at m)
   where
     one : {y : ℕ} → Memᴰ y (x ∷ []) → Covers x y
     one (Memᴰ.head e) = rw e (covers_itself l)
+    one (Memᴰ.tail m) = elim m [ ]
 fills_one unknown (Memᴰ.head e) = rw e (record { exists = refl; values = λ k. absurd (false≢true k); marks = λ t. t; small = lit≤ tt })
 fills_one unknown (Memᴰ.tail (Memᴰ.head e)) = rw e (record { exists = refl; values = λ k. absurd (false≢true k); marks = λ t. t; small = lit≤ tt })
+fills_one unknown (Memᴰ.tail (Memᴰ.tail m)) = elim m [ ]
 fills_one untrusted (Memᴰ.head e) = rw e (covers_every (lit≤ tt))
 fills_one untrusted (Memᴰ.tail (Memᴰ.head e)) = rw e (covers_every (lit≤ tt))
+fills_one untrusted (Memᴰ.tail (Memᴰ.tail m)) = elim m [ ]
 
 pub fills_covers : (code byte : ℕ) → Fills code byte → Covers code byte
 fills_covers code byte h = fills_one (is_code_lem code h.exists) h.among

@@ -6,5 +6,5 @@ use Rattle.image.proofs.pins.pin_net.Tie as tie
 returns : tie.Need-returns
 returns c = net_rest _ c.requires
 
-pub pin-net-spec : {M : Type 1} → statement M
-pin-net-spec = tie.close (tie.spec returns)
+pub pin_net_spec : {M : Type 1} → statement M
+pin_net_spec = tie.close (tie.spec returns)

@@ -10,9 +10,9 @@ returns c =
     let b = c.before in
     let a = b.before in
     let kind = a.before in (
-      rw (kind.kind-of.ensures, a.operand-of.ensures.0, b.operand-of2.ensures.0, c.operand-of3.ensures.0),
-      record { a = a.operand-of.ensures.1; b = b.operand-of2.ensures.1; c = c.operand-of3.ensures.1 },
+      rw (kind.kind_of.ensures, a.operand_of.ensures.0, b.operand_of-2.ensures.0, c.operand_of-3.ensures.0),
+      record { a = a.operand_of.ensures.1; b = b.operand_of-2.ensures.1; c = c.operand_of-3.ensures.1 },
     )
 
-pub net-of-spec : {M : Type 1} → statement M
-net-of-spec = tie.close (tie.spec (λ c κs. search rules) (λ c κs. search rules) (λ c κs. search rules) (λ c κs. search rules) returns)
+pub net_of_spec : {M : Type 1} → statement M
+net_of_spec = tie.close (tie.spec (λ c κs. search rules) (λ c κs. search rules) (λ c κs. search rules) (λ c κs. search rules) returns)

@@ -14,10 +14,10 @@ returns c =
     let p = first.before.before.before.args.p in
     let b : p + 2 ≡ suc (suc p) = omega arith in
     let c : p + 4 ≡ suc (suc (suc (suc p))) = omega arith in
-    third.put-u163.ensures ∙ rw (c, second.put-u162.ensures, b, first.put-u16.ensures)
+    third.put_u16-3.ensures ∙ rw (c, second.put_u16-2.ensures, b, first.put_u16.ensures)
 
-pub put-operands-spec : {M : Type 1} → statement M
-put-operands-spec =
+pub put_operands_spec : {M : Type 1} → statement M
+put_operands_spec =
     tie.close
     (tie.spec
     (λ c κs. search rules)

@@ -10,10 +10,10 @@ returns c =
     let third = fourth.before.before.before.before in
     let second = third.before.before.before.before in
     let first = second.before.before.before.before in
-    fourth.put-u164.ensures ∙ rw (third.put-u163.ensures, second.put-u162.ensures, first.put-u16.ensures)
+    fourth.put_u16-4.ensures ∙ rw (third.put_u16-3.ensures, second.put_u16-2.ensures, first.put_u16.ensures)
 
-pub put-sizes-spec : {M : Type 1} → statement M
-put-sizes-spec =
+pub put_sizes_spec : {M : Type 1} → statement M
+put_sizes_spec =
     tie.close
     (tie.spec
     (λ c κs. search rules)

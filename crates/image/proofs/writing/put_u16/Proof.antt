@@ -7,8 +7,8 @@ use Rattle.image.proofs.writing.put_u16.Tie as tie
 returns : tie.Need-returns
 returns c = rw add-one
 
-pub put-u16-spec : {M : Type 1} → statement M
-put-u16-spec =
+pub put_u16_spec : {M : Type 1} → statement M
+put_u16_spec =
     tie.close
     (tie.spec
     (λ c. search rules)

@@ -6,18 +6,18 @@ use Rattle.unknowns.proofs.ByWidth.{code_4, not_plain, not_low, not_unknown}
 use Rattle.unknowns.proofs.reading.inverse.Statement.{statement}
 use Rattle.unknowns.proofs.reading.inverse.Tie as tie
 
-inverted-if-requires : tie.Need-inverted-if-requires
-inverted-if-requires c κs = (code_4 _ (rw c.if1.true at c.before.requires), lit< tt)
+inverted-if-requires : tie.Need-inverted_if-requires
+inverted-if-requires c κs = (code_4 _ (rw c.if-width-eq4.true at c.before.requires), lit< tt)
 
-returns : tie.Need-returns
-returns c = c.inverted-if.ensures ∙ rw c.before.if1.true (not_plain _)
+returns : tie.Need-returns-then-width-eq4
+returns c = c.inverted_if.ensures ∙ rw c.before.if-width-eq4.true (not_plain _)
 
-pub inverse-spec : {M : Type 1} → statement M
-inverse-spec =
+pub inverse_spec : {M : Type 1} → statement M
+inverse_spec =
     tie.close
     (tie.spec
     inverted-if-requires
     returns
-    (λ c. sym (not_unknown _ _ c.before.if1.false c.before.before.requires (omega (arith, c.if2.true))))
-    (λ c κs. (omega (arith, c.if2.false), lit< tt))
-    (λ c. c.inverted-if2.ensures ∙ not_low _ _ (omega (arith, c.before.if2.false))))
+    (λ c. sym (not_unknown _ _ c.before.if-width-eq4.false c.before.before.requires (omega (arith, c.if-x-gt3.true))))
+    (λ c κs. (omega (arith, c.if-x-gt3.false), lit< tt))
+    (λ c. c.inverted_if-2.ensures ∙ not_low _ _ (omega (arith, c.before.if-x-gt3.false))))

@@ -11,5 +11,5 @@ returns : tie.Need-returns
 unfolding right_mux value mark byte and_mark or_mark xor_mark mux_mark not_byte and_byte or_byte xor_byte mux_byte gate_byte fillings filled code_of static_byte flat_map
 returns c = mux_table _ tt refl
 
-pub mux-codes-spec : {M : Type 1} → statement M
-mux-codes-spec = tie.close (tie.spec returns)
+pub mux_codes_spec : {M : Type 1} → statement M
+mux_codes_spec = tie.close (tie.spec returns)

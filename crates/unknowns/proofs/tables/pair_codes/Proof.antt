@@ -11,5 +11,5 @@ returns : tie.Need-returns
 unfolding right_pair value mark byte and_mark or_mark xor_mark mux_mark not_byte and_byte or_byte xor_byte mux_byte gate_byte fillings filled code_of static_byte flat_map
 returns c = pair_table _ tt refl
 
-pub pair-codes-spec : {M : Type 1} → statement M
-pair-codes-spec = tie.close (tie.spec returns)
+pub pair_codes_spec : {M : Type 1} → statement M
+pair_codes_spec = tie.close (tie.spec returns)

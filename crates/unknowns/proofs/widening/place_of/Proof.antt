@@ -18,5 +18,5 @@ placed x h = eqb-true _ _ (each6 (λ x. eqb (x - x / 6 - x / 7) (place x)) refl 
 returns : tie.Need-returns
 returns c = (omega (arith, c.requires), placed _)
 
-pub place-of-spec : {M : Type 1} → statement M
-place-of-spec = tie.close (tie.spec (λ c. search rules) (λ c. search rules) returns)
+pub place_of_spec : {M : Type 1} → statement M
+place_of_spec = tie.close (tie.spec (λ c. search rules) (λ c. search rules) returns)

@@ -4,5 +4,5 @@ use borrow.Author.Rules.{rules}
 use Rattle.unknowns.proofs.widening.wide_table_for.Statement.{statement}
 use Rattle.unknowns.proofs.widening.wide_table_for.Tie as tie
 
-pub wide-table-for-spec : {M : Type 1} → statement M
-wide-table-for-spec = tie.close (tie.spec (λ c κs. search rules) (λ c. search rules) (λ c. (refl, λ e. absurd (c.if1.false e))))
+pub wide_table_for_spec : {M : Type 1} → statement M
+wide_table_for_spec = tie.close (tie.spec (λ c κs. search rules) (λ c. search rules) (λ c. (refl, λ e. absurd (c.if-width-eq8.false e))))
