@@ -8,5 +8,5 @@ returns : tie.Need-returns
 unfolding limit_places
 returns c = refl
 
-pub limit-places-spec : {M : Type 1} → statement M
-limit-places-spec = tie.close (tie.spec returns)
+pub limit_places_spec : {M : Type 1} → statement M
+limit_places_spec = tie.close (tie.spec returns)

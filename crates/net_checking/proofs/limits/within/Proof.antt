@@ -9,10 +9,10 @@ unfolding within_limits
 returns c =
     let second = c.before in
     let first = second.before in
-    rw (c.held3.ensures, second.held2.ensures, first.held.ensures)
+    rw (c.held-3.ensures, second.held-2.ensures, first.held.ensures)
 
-pub within-spec : {M : Type 1} → statement M
-within-spec =
+pub within_spec : {M : Type 1} → statement M
+within_spec =
     tie.close
     (tie.spec
     (λ c. search rules)

@@ -7,7 +7,7 @@ returns c =
     let third = c.before.before.before.before.before.before in
     let second = third.before in
     let first = second.before in
-    rw (first.pin-net.ensures, second.pin-net2.ensures, third.pin-net3.ensures)
+    rw (first.pin_net-a.ensures, second.pin_net-b.ensures, third.pin_net-c.ensures)
 
-pub bad-pin-spec : {M : Type 1} → statement M
-bad-pin-spec = tie.close (tie.spec (λ c κs. c.requires.a) (λ c κs. c.before.requires.b) (λ c κs. c.before.before.requires.c) returns)
+pub bad_pin_spec : {M : Type 1} → statement M
+bad_pin_spec = tie.close (tie.spec (λ c κs. c.requires.a) (λ c κs. c.before.requires.b) (λ c κs. c.before.before.requires.c) returns)

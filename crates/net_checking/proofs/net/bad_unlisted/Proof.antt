@@ -6,5 +6,5 @@ use Rattle.net_checking.proofs.net.bad_unlisted.Tie as tie
 returns : tie.Need-returns
 returns c = search rules
 
-pub bad-unlisted-spec : {M : Type 1} → statement M
-bad-unlisted-spec = tie.close (tie.spec returns)
+pub bad_unlisted_spec : {M : Type 1} → statement M
+bad_unlisted_spec = tie.close (tie.spec returns)

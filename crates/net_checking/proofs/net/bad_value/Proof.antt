@@ -6,5 +6,5 @@ use Rattle.net_checking.proofs.net.bad_value.Tie as tie
 returns : tie.Need-returns
 returns c = search rules
 
-pub bad-value-spec : {M : Type 1} → statement M
-bad-value-spec = tie.close (tie.spec returns)
+pub bad_value_spec : {M : Type 1} → statement M
+bad_value_spec = tie.close (tie.spec returns)

@@ -9,53 +9,53 @@ use Rattle.net_checking.proofs.net.refuse_net.Statement.{statement}
 use Rattle.net_checking.proofs.net.refuse_net.Tie as tie
 
 -- the chain of refusals, by the flags
-chain : (c : tie.After-bad-unlisted)
+chain : (c : tie.After-bad_unlisted-unlisted)
     → let value = c.before in
     let pin = value.before in
     let args = pin.before.args in
     net_refusal args.n args.i args.x
     ≡ (refuse (ltb 8 args.x.kind) 4 args.i
-    then refuse pin.bad-pin.result 5 args.i
-    then refuse value.bad-value.result 6 args.i
-    then refuse c.bad-unlisted.result 7 args.i)
+    then refuse pin.bad_pin-pin.result 5 args.i
+    then refuse value.bad_value-value.result 6 args.i
+    then refuse c.bad_unlisted-unlisted.result 7 args.i)
 unfolding net_refusal
-chain c = rw (c.before.before.bad-pin.ensures, c.before.bad-value.ensures, c.bad-unlisted.ensures)
+chain c = rw (c.before.before.bad_pin-pin.ensures, c.before.bad_value-value.ensures, c.bad_unlisted-unlisted.ensures)
 
-returns : tie.Need-returns
+returns : tie.Need-returns-then-x-gt8
 returns c =
     let kind = c.before in
-    rw (chain kind.before.before, lt-ltb 8 _ kind.if1.true) c.refused.ensures
+    rw (chain kind.before.before, lt-ltb 8 _ kind.if-x-gt8.true) c.refused.ensures
 
-returns-2 : tie.Need-returns-2
+returns-2 : tie.Need-returns-then-pin
 returns-2 c =
     let pin = c.before in
     let kind = pin.before in
-    rw (chain kind.before.before, le-ltb 8 _ kind.if1.false, pin.if2.true) c.refused2.ensures
+    rw (chain kind.before.before, le-ltb 8 _ kind.if-x-gt8.false, pin.if-pin.true) c.refused-then-pin.ensures
 
-returns-3 : tie.Need-returns-3
+returns-3 : tie.Need-returns-then-value
 returns-3 c =
     let value = c.before in
     let pin = value.before in
     let kind = pin.before in
-    rw (chain kind.before.before, le-ltb 8 _ kind.if1.false, pin.if2.false, value.if3.true) c.refused3.ensures
+    rw (chain kind.before.before, le-ltb 8 _ kind.if-x-gt8.false, pin.if-pin.false, value.if-value.true) c.refused-then-value.ensures
 
-returns-4 : tie.Need-returns-4
+returns-4 : tie.Need-returns-then-unlisted
 returns-4 c =
     let unlisted = c.before in
     let value = unlisted.before in
     let pin = value.before in
     let kind = pin.before in
-    rw (chain kind.before.before, le-ltb 8 _ kind.if1.false, pin.if2.false, value.if3.false, unlisted.if4.true) c.refused4.ensures
+    rw (chain kind.before.before, le-ltb 8 _ kind.if-x-gt8.false, pin.if-pin.false, value.if-value.false, unlisted.if-unlisted.true) c.refused-then-unlisted.ensures
 
-returns-5 : tie.Need-returns-5
+returns-5 : tie.Need-returns
 returns-5 c =
     let value = c.before in
     let pin = value.before in
     let kind = pin.before in
-    rw (chain kind.before.before, le-ltb 8 _ kind.if1.false, pin.if2.false, value.if3.false, c.if4.false)
+    rw (chain kind.before.before, le-ltb 8 _ kind.if-x-gt8.false, pin.if-pin.false, value.if-value.false, c.if-unlisted.false)
 
-pub refuse-net-spec : {M : Type 1} → statement M
-refuse-net-spec =
+pub refuse_net_spec : {M : Type 1} → statement M
+refuse_net_spec =
     tie.close
     (tie.spec
     (λ c κs. search rules)
