@@ -16,46 +16,40 @@ use Rattle.checking.proofs.checking.check.Tie as tie
 abbrev wrongNets : ℕ → Bool
 wrongNets n = eqb n 0 || ltb 8192 n
 
-returns : tie.Need-returns
+returns : tie.Need-returns-then-image-lt8
 unfolding check_refusal
-returns c = rw (lt-ltb _ 8 c.before.if1.true) c.refused.ensures
+returns c = rw (lt-ltb _ 8 c.if-image-lt8.true) c.refused.ensures
 
-returns-2 : tie.Need-returns-2
+returns-2 : tie.Need-returns-then-z
 unfolding check_refusal
 returns-2 c =
-    let sized = c.before.before.before.before in
-    let two : wrongNets sized.sizes-of.result.nets ≡ true = c.before.if2.true in
-    rw (le-ltb _ 8 sized.before.if1.false, ← sized.sizes-of.ensures, two) c.refused2.ensures
+    let two : wrongNets c.sizes_of-z.result.nets ≡ true = c.if-z.true in
+    rw (le-ltb _ 8 c.if-image-lt8.false, ← c.sizes_of-z.ensures, two) c.refused-then-z.ensures
 
 -- past 2
-not-2 : (c : tie.Else2) → wrongNets c.before.before.before.sizes-of.result.nets ≡ false
-not-2 c = c.if2.false
+not-2 : (c : tie.Else-z) → wrongNets c.sizes_of-z.result.nets ≡ false
+not-2 c = c.if-z.false
 
-returns-3 : tie.Need-returns-3
+returns-3 : tie.Need-returns-then-image-z
 unfolding check_refusal
 returns-3 c =
-    let few = c.before.before.before in
-    let sized = few.before.before.before in
-    rw (le-ltb _ 8 sized.before.if1.false, ← sized.sizes-of.ensures, not-2 few, ne_eqb _ _ c.before.if3.true) c.refused3.ensures
+    rw (le-ltb _ 8 c.if-image-lt8.false, ← c.sizes_of-z.ensures, not-2 c.before.before.before, ne_eqb _ _ c.if-image-z.true) c.refused-then-image-z.ensures
 
-returns-4 : tie.Need-returns-4
+returns-4 : tie.Need-returns
 unfolding check_refusal
 returns-4 c =
-    let few = c.before.before.before in
-    let sized = few.before.before.before in
-    let sizes = sized.sizes-of.ensures in
-    rw (le-ltb _ 8 sized.before.if1.false, ← sizes, not-2 few, eq-eqb _ _ c.before.if3.false) (rw (← sizes) at c.check-nets.ensures)
+    let sizes = c.sizes_of-z.ensures in
+    rw (le-ltb _ 8 c.if-image-lt8.false, ← sizes, not-2 c.before.before.before, eq-eqb _ _ c.if-image-z.false) (rw (← sizes) at c.check_nets.ensures)
 
-at_most : (c : tie.Else2) → c.before.before.before.sizes-of.result.nets ≤ 8192
+at_most : (c : tie.Else-z) → c.sizes_of-z.result.nets ≤ 8192
 at_most c = let t = simp accepted at (not-2 c) in t.1
 
-check-nets-requires : tie.Need-check-nets-requires
+check-nets-requires : tie.Need-check_nets-requires
 check-nets-requires c κs =
-    let few = c.before.before in
-    (ap (λ (z : Sizes). z.nets) few.before.before.before.sizes-of.ensures, at_most few, c.if3.false)
+    (ap (λ (z : Sizes). z.nets) c.sizes_of-z.ensures, at_most c.before.before, c.if-image-z.false)
 
-pub check-spec : {M : Type 1} → statement M
-check-spec =
+pub check_spec : {M : Type 1} → statement M
+check_spec =
     tie.close
     (tie.spec
     (λ c κs. search rules)

@@ -71,92 +71,76 @@ module _ {s : List ℕ} {n : ℕ} {ls counts : List ℕ} {i : ℕ} (h : n ≡ (s
       let e : i ≡ (sizes_of s).nets = omega (arith, t.most) in
       t.counted ∙ rw (e, h)
 
-abbrev invariant-loop : tie.invariant-loop
-invariant-loop s n places limits₀ counts₀ i₀ limits counts i = Turn s n limits counts i
+abbrev invariant-loop-i : tie.invariant-loop-i
+invariant-loop-i s n places limits₀ counts₀ i₀ limits counts i = Turn s n limits counts i
 
-abbrev decreases-loop : tie.decreases-loop
-decreases-loop s n places limits₀ counts₀ i₀ limits counts i = n - i
+abbrev decreases-loop-i : tie.decreases-loop-i
+decreases-loop-i s n places limits₀ counts₀ i₀ limits counts i = n - i
 
-loop-holds : tie.Need-loop-init invariant-loop decreases-loop
-loop-holds c = let start = c.before.before in begins _ _ start.requires.0
+loop-holds : tie.Need-loop-i-init invariant-loop-i decreases-loop-i
+loop-holds c = begins _ _ c.requires.0
 
-net-of-requires : tie.Need-net-of-requires invariant-loop decreases-loop
+net-of-requires : tie.Need-net_of-x-requires invariant-loop-i decreases-loop-i
 net-of-requires c κs =
-    let start = c.before.before.before.before in
-    rw (← start.requires.0) (c.loop-test.true, start.requires.2)
+    rw (← c.requires.0) (c.loop-i-test.true, c.requires.2)
 
-check-net-requires : tie.Need-check-net-requires invariant-loop decreases-loop
+check-net-requires : tie.Need-check_net-o-requires invariant-loop-i decreases-loop-i
 check-net-requires c κs =
-    let read = c.before.before in
-    let at = read.before.before in
-    (at.before.limit-places.ensures, at.loop.invariant.limits, read.net-of.ensures.1)
+    (c.limit_places-places.ensures, c.loop-i.invariant.limits, c.net_of-x.ensures.1)
 
 -- the net of a turn
-this_net : (c : tie.After-net-of invariant-loop decreases-loop)
-    → let at = c.before.before in
-    let args = at.before.before.before.args in
-    c.net-of.result ≡ net_at args.s.now args.n at.loop.i
+this_net : (c : tie.After-net_of-x invariant-loop-i decreases-loop-i)
+    → let args = c.args in
+    c.net_of-x.result ≡ net_at args.s.now args.n c.loop-i.i
 this_net c =
-    let start = c.before.before.before.before.before in
-    rw start.requires.0 c.net-of.ensures.0
+    rw c.requires.0 c.net_of-x.ensures.0
 
-returns : tie.Need-returns invariant-loop decreases-loop
+returns : tie.Need-returns-in-Refused invariant-loop-i decreases-loop-i
 returns c =
-    let checked = c.before.before.before in
-    let read = checked.before.before.before in
-    stops read.before.before.loop.invariant read.before.loop-test.true (this_net read) _ _
-    (sym checked.check-net.ensures ∙ ap refusal_in c.before.o.given.1)
+    stops c.loop-i.invariant c.loop-i-test.true (this_net c.before.before.before.before) _ _
+    (sym c.check_net-o.ensures ∙ ap refusal_in c.in-Refused.is)
 
 -- a net that passed
-passed : (c : tie.After-enum-told invariant-loop decreases-loop)
-    → let checked = c.before.before in
-    let read = checked.before.before.before in
-    let at = read.before.before in
-    net_refusal at.before.before.before.args.n at.loop.i read.net-of.result ≡ none
-passed c = sym c.before.before.check-net.ensures ∙ ap refusal_in c.enum_told.given.1
+passed : (c : tie.In_default invariant-loop-i decreases-loop-i)
+    → net_refusal c.args.n c.loop-i.i c.net_of-x.result ≡ none
+passed c = sym c.check_net-o.ensures ∙ ap refusal_in c.in_default.is
 
-loop-again : tie.Need-loop-preserved invariant-loop decreases-loop
+loop-again : tie.Need-loop-i-preserved invariant-loop-i decreases-loop-i
 loop-again c =
-    let read = c.before.before.before.before.before.before in
-    goes_on read.before.before.loop.invariant read.before.loop-test.true (this_net read) (passed c.before)
+    goes_on c.loop-i.invariant c.loop-i-test.true (this_net c.before.before.before.before.before) (passed c.before)
 
 -- its place among the counts, and the count there
-small : (c : tie.After-enum-told invariant-loop decreases-loop) → c.before.before.before.before.before.net-of.result.kind < 9
+small : (c : tie.In_default invariant-loop-i decreases-loop-i) → c.net_of-x.result.kind < 9
 small c = omega (arith, kind_most (passes _ _ _ (passed c)))
 
-add-counts : tie.Need-overflow-add-counts invariant-loop decreases-loop
+add-counts : tie.Need-overflow_add-counts invariant-loop-i decreases-loop-i
 add-counts c =
-    let at = c.before.before.before.before.before.before.before.before in
-    omega (arith, few at.loop.invariant _ (small c.before))
+    omega (arith, few c.loop-i.invariant _ (small c.before))
 
-wrong-counts-requires : tie.Need-wrong-counts-requires invariant-loop decreases-loop
+wrong-counts-requires : tie.Need-wrong_counts-requires invariant-loop-i decreases-loop-i
 wrong-counts-requires c κs =
-    let at = c.before.before in
-    let start = at.before.before.before in
-    (omega (arith, start.requires.2), all-counted start.requires.0 c.before.loop-test.false at.loop.invariant)
+    (omega (arith, c.requires.2), all-counted c.requires.0 c.loop-i-test.false c.loop-i.invariant)
 
 -- after the last turn
-none-refused : (c : tie.After-loop invariant-loop decreases-loop)
-    → let args = c.before.before.before.before.args in
+none-refused : (c : tie.After-loop-i invariant-loop-i decreases-loop-i)
+    → let args = c.args in
     nets_refusal args.n 0 (nets_of args.s.now) ≡ none
-none-refused c = all_pass c.before.before.before.before.requires.0 c.loop-test.false c.before.loop.invariant
+none-refused c = all_pass c.requires.0 c.loop-i-test.false c.loop-i.invariant
 
-returns-2 : tie.Need-returns-2 invariant-loop decreases-loop
+returns-2 : tie.Need-returns-then-wrong_counts invariant-loop-i decreases-loop-i
 returns-2 c =
-    let tested = c.before.before in
-    rw (none-refused tested.before.before, ← tested.wrong-counts.ensures, c.before.if1.true) c.refused.ensures
+    rw (none-refused c.before.before.before.before, ← c.wrong_counts.ensures, c.if-wrong_counts.true) c.refused.ensures
 
-returns-3 : tie.Need-returns-3 invariant-loop decreases-loop
+returns-3 : tie.Need-returns invariant-loop-i decreases-loop-i
 returns-3 c =
-    let tested = c.before in
-    rw (none-refused tested.before.before, ← tested.wrong-counts.ensures, c.if1.false)
+    rw (none-refused c.before.before.before, ← c.wrong_counts.ensures, c.if-wrong_counts.false)
 
-pub check-nets-spec : {M : Type 1} → statement M
-check-nets-spec =
+pub check_nets_spec : {M : Type 1} → statement M
+check_nets_spec =
     tie.close
     (tie.spec
-    invariant-loop
-    decreases-loop
+    invariant-loop-i
+    decreases-loop-i
     (λ c κs. search rules)
     loop-holds
     net-of-requires

@@ -22,11 +22,10 @@ differs s counts z h k = rw (h, k)
 
 returns : tie.Need-returns
 returns c =
-    let sized = c.before.before.before.before.before.before in
-    differs _ _ _ sized.sizes-of.ensures sized.before.before.requires.1
+    differs _ _ _ c.sizes_of-z.ensures c.requires.1
 
-pub wrong-counts-spec : {M : Type 1} → statement M
-wrong-counts-spec =
+pub wrong_counts_spec : {M : Type 1} → statement M
+wrong_counts_spec =
     tie.close
     (tie.spec
     (λ c κs. search rules)
