@@ -11,44 +11,40 @@ use Rattle.cycle.proofs.States.{count_next, count_fits}
 use Rattle.cycle.proofs.state.count_marked.Statement.{statement}
 use Rattle.cycle.proofs.state.count_marked.Tie as tie
 
-abbrev invariant-loop : tie.invariant-loop
-invariant-loop registers marked₀ j₀ marked j = (marked ≡ marked_count (take j registers)) × (j ≤ length registers)
+abbrev invariant-loop-j : tie.invariant-loop-j
+invariant-loop-j registers marked₀ j₀ marked j = (marked ≡ marked_count (take j registers)) × (j ≤ length registers)
 
-abbrev decreases-loop : tie.decreases-loop
-decreases-loop registers marked₀ j₀ marked j = length registers - j
+abbrev decreases-loop-j : tie.decreases-loop-j
+decreases-loop-j registers marked₀ j₀ marked j = length registers - j
 
-loop-holds : tie.Need-loop-init invariant-loop decreases-loop
+loop-holds : tie.Need-loop-j-init invariant-loop-j decreases-loop-j
 unfolding marked_count
 loop-holds c = (refl, omega arith)
 
 -- with one register more
-next : (c : tie.After-mark-bit invariant-loop decreases-loop)
-    → let at = c.before.before.before in
-    at.loop.marked + c.mark-bit.result ≡ marked_count (take (suc at.loop.j) at.before.before.args.registers.now)
+next : (c : tie.After-mark_bit-marked invariant-loop-j decreases-loop-j)
+    → c.loop-j.marked + c.mark_bit-marked.result ≡ marked_count (take (suc c.loop-j.j) c.args.registers.now)
 next c =
-    let at = c.before.before.before in
-    rw (at.loop.invariant.0, c.mark-bit.ensures.0) (sym (count_next at.before.before.args.registers.now at.loop.j c.before.before.loop-test.true))
+    rw (c.loop-j.invariant.0, c.mark_bit-marked.ensures.0) (sym (count_next c.args.registers.now c.loop-j.j c.loop-j-test.true))
 
-add-marked : tie.Need-overflow-add-marked invariant-loop decreases-loop
+add-marked : tie.Need-overflow_add-marked invariant-loop-j decreases-loop-j
 add-marked c =
-    let at = c.before.before.before in
-    let rs = at.before.before.args.registers.now in
-    omega (arith, next c, count_fits rs (suc at.loop.j) at.before.before.requires)
+    let rs = c.args.registers.now in
+    omega (arith, next c, count_fits rs (suc c.loop-j.j) c.requires)
 
-loop-again : tie.Need-loop-preserved invariant-loop decreases-loop
+loop-again : tie.Need-loop-j-preserved invariant-loop-j decreases-loop-j
 loop-again c = (rw (add-one) (next c), omega arith)
 
-returns : tie.Need-returns invariant-loop decreases-loop
+returns : tie.Need-returns invariant-loop-j decreases-loop-j
 returns c =
-    let at = c.before in
-    at.loop.invariant.0 ∙ ap marked_count (take_all at.loop.j _ c.loop-test.false)
+    c.loop-j.invariant.0 ∙ ap marked_count (take_all c.loop-j.j _ c.loop-j-test.false)
 
-pub count-marked-spec : {M : Type 1} → statement M
-count-marked-spec =
+pub count_marked_spec : {M : Type 1} → statement M
+count_marked_spec =
     tie.close
     (tie.spec
-    invariant-loop
-    decreases-loop
+    invariant-loop-j
+    decreases-loop-j
     loop-holds
     (λ c. search rules)
     (λ c κs. search rules)
