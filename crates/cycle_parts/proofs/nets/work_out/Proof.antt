@@ -15,14 +15,14 @@ use Rattle.cycle_parts.proofs.Walking.{Walked, walk_begins, walk_readable, walk_
 use Rattle.cycle_parts.proofs.nets.work_out.Statement.{statement}
 use Rattle.cycle_parts.proofs.nets.work_out.Tie as tie
 
-abbrev invariant-loop : tie.invariant-loop
-invariant-loop image n t row state nets₀ inputs₀ registers₀ i₀ nets inputs registers i = Walked image n row state nets i inputs registers
+abbrev invariant-loop-i : tie.invariant-loop-i
+invariant-loop-i image n t row state nets₀ inputs₀ registers₀ i₀ nets inputs registers i = Walked image n row state nets i inputs registers
 
-abbrev decreases-loop : tie.decreases-loop
-decreases-loop image n t row state nets₀ inputs₀ registers₀ i₀ nets inputs registers i = n - i
+abbrev decreases-loop-i : tie.decreases-loop-i
+decreases-loop-i image n t row state nets₀ inputs₀ registers₀ i₀ nets inputs registers i = n - i
 
 -- the image is accepted, and the bytes that are read are codes
-ready : (c : tie.Start invariant-loop decreases-loop) → Ready c.args.image.now c.args.state.now (sizes_of c.args.image.now).inputs c.args.row.now
+ready : (c : tie.Start invariant-loop-i decreases-loop-i) → Ready c.args.image.now c.args.state.now (sizes_of c.args.image.now).inputs c.args.row.now
 ready c =
     let sizes = c.requires.1.0 in
     let low = c.requires.1.1 in
@@ -33,19 +33,18 @@ ready c =
       codes = codes_low low.0;
     }
 
-size : (c : tie.Start invariant-loop decreases-loop) → length c.args.nets.now ≡ c.args.n
+size : (c : tie.Start invariant-loop-i decreases-loop-i) → length c.args.nets.now ≡ c.args.n
 size c = c.requires.1.0.2
 
-slice-write-nets : tie.Need-slice-write-nets invariant-loop decreases-loop
-slice-write-nets c = omega (arith, size c.before.before.before.before.before, c.if1.true)
+slice-write-nets : tie.Need-bounds-nets-1 invariant-loop-i decreases-loop-i
+slice-write-nets c = omega (arith, size c.before.before.before.before.before, c.if-n-gt1.true)
 
-loop-holds : tie.Need-loop-init invariant-loop decreases-loop
+loop-holds : tie.Need-loop-i-init invariant-loop-i decreases-loop-i
 loop-holds c =
-    let start = c.before.before.before.before.before in
-    let n = start.args.n in
-    let nets = start.args.nets.now in
-    let l = size start in
-    let begins = walk_begins {n = n} (ready start) start.requires.0.2 in
+    let n = c.args.n in
+    let nets = c.args.nets.now in
+    let l = size c.before.before.before.before.before in
+    let begins = walk_begins {n = n} (ready c.before.before.before.before.before) c.requires.0.2 in
     ⊎_elim
     (λ w.
     let e = w.1 in
@@ -53,36 +52,32 @@ loop-holds c =
     (λ w.
     let e = w.1 in
     begins (rw e l) (rw e (get_or-eq_default nets 0 (omega arith))))
-    c.if1.branch
+    c.if-n-gt1.branch
 
-net-byte-requires : tie.Need-net-byte-requires invariant-loop decreases-loop
+net-byte-requires : tie.Need-net_byte-x-requires invariant-loop-i decreases-loop-i
 net-byte-requires c κs =
-    let at = c.before.before in
-    let start = at.before.before.before.before.before.before in
-    let walked = at.loop.invariant in
-    let below = c.before.loop-test.true in
-    let e = start.requires.0.2 in
-    (start.requires.0.0, ((rw (← e) below, (ready start).image.exact, walked.size ∙ e), rw (← e) (walk_readable walked below)))
+    let walked = c.loop-i.invariant in
+    let below = c.loop-i-test.true in
+    let e = c.requires.0.2 in
+    (c.requires.0.0, ((rw (← e) below, (ready c.before.before.before.before.before.before.before).image.exact, walked.size ∙ e), rw (← e) (walk_readable walked below)))
 
-loop-again : tie.Need-loop-preserved invariant-loop decreases-loop
+loop-again : tie.Need-loop-i-preserved invariant-loop-i decreases-loop-i
 loop-again c =
-    let at = c.before.before.before in
-    let start = at.before.before.before.before.before.before in
-    let x = rw (← start.requires.0.2) at c.net_byte_lem.ensures in
-    rw (add-one at.loop.i) (walk_goes_on at.loop.invariant c.before.before.loop-test.true _ _ _ x.0 x.1.0 x.1.1)
+    let x = rw (← c.requires.0.2) c c.net_byte_lem.ensures in
+    rw (add-one c.loop-i.i) (walk_goes_on c.loop-i.invariant c.loop-i-test.true _ _ _ x.0 x.1.0 x.1.1)
 
-same_length : tie.Need-same-length invariant-loop decreases-loop
-same_length c = c.before.loop.invariant.size ∙ sym (size c.before.before.before.before.before.before.before)
+same_length : tie.Need-shape_of-nets invariant-loop-i decreases-loop-i
+same_length c = c.loop-i.invariant.size ∙ sym (size c.before.before.before.before.before.before.before)
 
-returns : tie.Need-returns invariant-loop decreases-loop
-returns c = walk_ends c.before.loop.invariant c.loop-test.false
+returns : tie.Need-returns invariant-loop-i decreases-loop-i
+returns c = walk_ends c.loop-i.invariant c.loop-i-test.false
 
-pub work-out-spec : {M : Type 1} → statement M
-work-out-spec =
+pub work_out_spec : {M : Type 1} → statement M
+work_out_spec =
     tie.close
     (tie.spec
-    invariant-loop
-    decreases-loop
+    invariant-loop-i
+    decreases-loop-i
     slice-write-nets
     loop-holds
     net-byte-requires

@@ -9,15 +9,14 @@ use Rattle.cycle_parts.proofs.pins.pin_byte.Tie as tie
 returns : tie.Need-returns
 unfolding pin_byte gate_byte
 returns c =
-    let named = c.before.before in
-    rw (c.inverted-if.ensures, named.pin-net.ensures, top_digit _ named.before.before.requires.0)
+    rw (c.inverted_if.ensures, c.pin_net-i.ensures, top_digit _ c.requires.0)
 
-pub pin-byte-spec : {M : Type 1} → statement M
-pin-byte-spec =
+pub pin_byte_spec : {M : Type 1} → statement M
+pin_byte_spec =
     tie.close
     (tie.spec
-    (λ c κs. c.before.requires.0)
-    (λ c. let named = c.before in rw named.pin-net.ensures named.before.before.requires.1)
-    (λ c. let pre = c.before.before.before.requires in omega (arith, pre.0))
-    (λ c κs. let named = c.before in let pre = named.before.before.requires in (rw named.pin-net.ensures pre.2, omega (arith, pre.0)))
+    (λ c κs. c.requires.0)
+    (λ c. rw c.pin_net-i.ensures c.requires.1)
+    (λ c. let pre = c.requires in omega (arith, pre.0))
+    (λ c κs. let pre = c.requires in (rw c.pin_net-i.ensures pre.2, omega (arith, pre.0)))
     returns)

@@ -14,71 +14,66 @@ use Rattle.cycle_parts.proofs.Counting.{Counting, counting_begins, counting_fits
 use Rattle.cycle_parts.proofs.registers.take_starts.Statement.{statement}
 use Rattle.cycle_parts.proofs.registers.take_starts.Tie as tie
 
-abbrev invariant-loop : tie.invariant-loop
-invariant-loop image n wake state₀ marked₀ j₀ i₀ state marked j i = Counting (λ x. start_by wake x.b) image n state₀ state marked j i
+abbrev invariant-loop-i : tie.invariant-loop-i
+invariant-loop-i image n wake state₀ marked₀ j₀ i₀ state marked j i = Counting (λ x. start_by wake x.b) image n state₀ state marked j i
 
-abbrev decreases-loop : tie.decreases-loop
-decreases-loop image n wake state₀ marked₀ j₀ i₀ state marked j i = n - i
+abbrev decreases-loop-i : tie.decreases-loop-i
+decreases-loop-i image n wake state₀ marked₀ j₀ i₀ state marked j i = n - i
 
-loop-holds : tie.Need-loop-init invariant-loop decreases-loop
+loop-holds : tie.Need-loop-i-init invariant-loop-i decreases-loop-i
 loop-holds c =
-    let begin = c.before.before in
-    let size = begin.requires.1 in
-    counting_begins ((check_none _).0 begin.requires.0) size.0 size.1
+    let size = c.requires.1 in
+    counting_begins ((check_none _).0 c.requires.0) size.0 size.1
 
-is-register : (c : tie.Then1 invariant-loop decreases-loop)
-    → let at = c.before.before.before in
-    kind_at at.before.before.before.args.image.now at.loop.i ≡ REG
-is-register c = sym c.before.kind-of.ensures ∙ c.if1.true
+is-register : (c : tie.Then-kind_of-eq-REG invariant-loop-i decreases-loop-i)
+    → kind_at c.args.image.now c.loop-i.i ≡ REG
+is-register c = sym c.kind_of.ensures ∙ c.if-kind_of-eq-REG.true
 
 -- a register has a byte in the state
-room : (c : tie.Then1 invariant-loop decreases-loop) → let at = c.before.before.before in at.loop.j < length at.loop.state
-room c = pass_room c.before.before.before.loop.invariant.pass c.before.before.loop-test.true (is-register c)
+room : (c : tie.Then-kind_of-eq-REG invariant-loop-i decreases-loop-i) → c.loop-i.j < length c.loop-i.state
+room c = pass_room c.loop-i.invariant.pass c.loop-i-test.true (is-register c)
 
-slice-write-state : tie.Need-slice-write-state invariant-loop decreases-loop
+slice-write-state : tie.Need-bounds-state-j invariant-loop-i decreases-loop-i
 slice-write-state c = room c.before.before
 
-add-marked : tie.Need-overflow-add-marked invariant-loop decreases-loop
+add-marked : tie.Need-overflow_add-marked invariant-loop-i decreases-loop-i
 unfolding net_at
 add-marked c =
-    let read = c.before.before in
-    let pass = c.before.before.before.before.before.before.loop.invariant in
-    let byte = rw (read.operand-of.ensures.0, ← pass.pass.count_is) at c.before.start-byte.ensures in
-    record { fits = rw c.mark-bit.ensures.0 (counting_fits pass read.before.before.before.loop-test.true (is-register read.before) byte) }
+    let pass = c.loop-i.invariant in
+    let byte = rw (c.operand_of.ensures.0, ← pass.pass.count_is) at c.start_byte-x.ensures in
+    record { fits = rw c.mark_bit-marked.ensures.0 (counting_fits pass c.loop-i-test.true (is-register c.before.before.before) byte) }
 
-add-j : tie.Need-overflow-add-j invariant-loop decreases-loop
+add-j : tie.Need-overflow_add-j invariant-loop-i decreases-loop-i
 add-j c =
-    let then = c.before.before.before in
-    omega (arith, room then, then.before.before.before.loop.invariant.pass.size)
+    omega (arith, room c.before.before.before, c.loop-i.invariant.pass.size)
 
-loop-again : tie.Need-loop-preserved invariant-loop decreases-loop
+loop-again : tie.Need-loop-i-preserved invariant-loop-i decreases-loop-i
 unfolding net_at
 loop-again c =
-    let turn = c.before.before in
-    let pass = turn.before.loop.invariant in
-    let below = turn.loop-test.true in
+    let pass = c.loop-i.invariant in
+    let below = c.loop-i-test.true in
     ⊎_elim
     (λ w.
     rw (w.4, w.5, w.6, w.3.ensures.0, w.2.ensures, w.1.ensures.0, ← pass.pass.count_is)
     (counting_takes pass below (is-register (record { before = c.before; if1 = w.0 })) refl))
-    (λ w. rw (w.1, w.2, w.3) (counting_skips pass below (λ e. w.0.left (c.before.kind-of.ensures ∙ e))))
-    c.if1.branch
+    (λ w. rw (w.1, w.2, w.3) (counting_skips pass below (λ e. w.0.left (c.kind_of.ensures ∙ e))))
+    c.if-kind_of-eq-REG.branch
 
-returns : tie.Need-returns invariant-loop decreases-loop
+returns : tie.Need-returns invariant-loop-i decreases-loop-i
 unfolding starts_by
 returns c =
-    let pass = c.before.loop.invariant in
-    (pass_ends pass.pass c.loop-test.false, counting_ends pass c.loop-test.false)
+    let pass = c.loop-i.invariant in
+    (pass_ends pass.pass c.loop-i-test.false, counting_ends pass c.loop-i-test.false)
 
-pub take-starts-spec : {M : Type 1} → statement M
-take-starts-spec =
+pub take_starts_spec : {M : Type 1} → statement M
+take_starts_spec =
     tie.close
     (tie.spec
-    invariant-loop
-    decreases-loop
+    invariant-loop-i
+    decreases-loop-i
     loop-holds
     (λ c κs. search rules)
-    (λ c κs. pass_reads c.before.before.before.loop.invariant.pass c.before.before.loop-test.true 1 (omega arith))
+    (λ c κs. pass_reads c.loop-i.invariant.pass c.loop-i-test.true 1 (omega arith))
     (λ c κs. search rules)
     slice-write-state
     (λ c κs. search rules)
@@ -87,5 +82,5 @@ take-starts-spec =
     (λ c. search rules)
     (λ c. search rules)
     loop-again
-    (λ c. c.before.loop.invariant.pass.size)
+    (λ c. c.loop-i.invariant.pass.size)
     returns)

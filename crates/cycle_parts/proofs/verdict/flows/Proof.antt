@@ -4,17 +4,15 @@ use borrow.Author.Tests.{eq-eqb, ne_eqb}
 use Rattle.cycle_parts.proofs.verdict.flows.Statement.{statement}
 use Rattle.cycle_parts.proofs.verdict.flows.Tie as tie
 
-returns : tie.Need-returns
-returns c = rw (← c.before.kind-of.ensures, ne_eqb _ 8 c.if1.true)
+returns : tie.Need-returns-then-kind_of-ne-OUT
+returns c = rw (← c.kind_of.ensures, ne_eqb _ 8 c.if-kind_of-ne-OUT.true)
 
-returns-2 : tie.Need-returns-2
+returns-2 : tie.Need-returns
 returns-2 c =
-    let at = c.before.before in
-    let kind = at.before.before in
-    rw (← kind.kind-of.ensures, eq-eqb _ 8 at.before.if1.false, ← at.operand-of.ensures.0, ← c.marked.ensures)
+    rw (← c.kind_of.ensures, eq-eqb _ 8 c.if-kind_of-ne-OUT.false, ← c.operand_of.ensures.0, ← c.marked.ensures)
 
-pub flows-spec : {M : Type 1} → statement M
-flows-spec =
+pub flows_spec : {M : Type 1} → statement M
+flows_spec =
     tie.close
     (tie.spec
     (λ c κs. search rules)

@@ -17,25 +17,24 @@ use Rattle.cycle.specs.Cycle.{clear, flow, verdict_from}
 use Rattle.cycle_parts.proofs.verdict.verdict_of.Statement.{statement}
 use Rattle.cycle_parts.proofs.verdict.verdict_of.Tie as tie
 
-abbrev invariant-loop : tie.invariant-loop
-invariant-loop image n nets i₀ i = (i ≤ n) × (verdict_from mark 0 (nets_of image) nets ≡ verdict_from mark i (nets_left image n i) nets)
+abbrev invariant-loop-i : tie.invariant-loop-i
+invariant-loop-i image n nets i₀ i = (i ≤ n) × (verdict_from mark 0 (nets_of image) nets ≡ verdict_from mark i (nets_left image n i) nets)
 
-abbrev decreases-loop : tie.decreases-loop
-decreases-loop image n nets i₀ i = n - i
+abbrev decreases-loop-i : tie.decreases-loop-i
+decreases-loop-i image n nets i₀ i = n - i
 
-loop-holds : tie.Need-loop-init invariant-loop decreases-loop
+loop-holds : tie.Need-loop-i-init invariant-loop-i decreases-loop-i
 loop-holds c =
-    let start = c.before.before in
-    let pre = start.requires in
-    let s = start.args.image.now in
-    let bs = start.args.nets.now in
+    let pre = c.requires in
+    let s = c.args.image.now in
+    let bs = c.args.nets.now in
     (omega arith, ap (λ xs. verdict_from mark 0 xs bs) (sym (nets_left_lem s _ pre.1.0)))
 
-flows-requires : tie.Need-flows-requires invariant-loop decreases-loop
+flows-requires : tie.Need-flows-requires invariant-loop-i decreases-loop-i
 flows-requires c κs =
-    let pre = c.before.before.before.before.requires in
+    let pre = c.requires in
     let size = pre.1 in
-    (rw (← size.0) c.if1.false, ((check_none _).0 pre.0).exact, rw size.1 c.if1.false)
+    (rw (← size.0) c.if-n-i.false, ((check_none _).0 pre.0).exact, rw size.1 c.if-n-i.false)
 
 -- the net at hand decides, or leaves the verdict to the nets above
 this_net : (s : List ℕ) (n i : ℕ) (bs : List ℕ) → i < n
@@ -44,41 +43,36 @@ this_net : (s : List ℕ) (n i : ℕ) (bs : List ℕ) → i < n
 unfolding verdict_from net_at
 this_net s n i bs h = rw (nets_next s n i h, add-one i)
 
--- at the head of a turn
-left : (c : tie.After-flows invariant-loop decreases-loop)
-    → let at = c.before.before in
-    let args = at.before.before.before.args in
-    let i = at.loop.i in
+-- c the head of a turn
+left : (c : tie.After-flows invariant-loop-i decreases-loop-i)
+    → let args = c.args in
+    let i = c.loop-i.i in
     verdict_from mark 0 (nets_of args.image.now) args.nets.now
     ≡ cond c.flows.result (flow i) (verdict_from mark (i + 1) (nets_left args.image.now args.n (i + 1)) args.nets.now)
 left c =
-    let at = c.before.before in
-    let start = at.before.before.before in
-    let args = start.args in
-    rw (c.flows.ensures, ← start.requires.1.0) (at.loop.invariant.1 ∙ this_net args.image.now args.n at.loop.i args.nets.now c.before.if1.false)
+    let args = c.args in
+    rw (c.flows.ensures, ← c.requires.1.0) (c.loop-i.invariant.1 ∙ this_net args.image.now args.n c.loop-i.i args.nets.now c.if-n-i.false)
 
-loop-again : tie.Need-loop-preserved invariant-loop decreases-loop
-loop-again c = (omega arith, rw c.if2.false at (left c.before))
+loop-again : tie.Need-loop-i-preserved invariant-loop-i decreases-loop-i
+loop-again c = (omega arith, rw c.if-flows.false at (left c.before))
 
 nothing_left : (i : ℕ) (bs : List ℕ) → verdict_from mark i [] bs ≡ clear
 unfolding verdict_from
 nothing_left i bs = refl
 
-returns : tie.Need-returns invariant-loop decreases-loop
+returns : tie.Need-returns-then-n-i invariant-loop-i decreases-loop-i
 returns c =
-    let at = c.before in
-    let start = at.before.before.before in
-    sym (at.loop.invariant.1 ∙ rw (nets_done start.args.image.now start.args.n at.loop.i (omega arith), nothing_left))
+    sym (c.loop-i.invariant.1 ∙ rw (nets_done c.args.image.now c.args.n c.loop-i.i (omega arith), nothing_left))
 
-returns-2 : tie.Need-returns-2 invariant-loop decreases-loop
-returns-2 c = sym (rw c.if2.true at (left c.before))
+returns-2 : tie.Need-returns-then-flows invariant-loop-i decreases-loop-i
+returns-2 c = sym (rw c.if-flows.true at (left c.before))
 
-pub verdict-of-spec : {M : Type 1} → statement M
-verdict-of-spec =
+pub verdict_of_spec : {M : Type 1} → statement M
+verdict_of_spec =
     tie.close
     (tie.spec
-    invariant-loop
-    decreases-loop
+    invariant-loop-i
+    decreases-loop-i
     loop-holds
     flows-requires
     (λ c. search rules)

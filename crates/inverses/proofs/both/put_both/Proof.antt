@@ -11,8 +11,8 @@ returns : tie.Need-returns
 unfolding put_pair
 returns c = refl
 
-pub put-both-spec : {M : Type 1} → statement M
-put-both-spec =
+pub put_both_spec : {M : Type 1} → statement M
+put_both_spec =
     tie.close
     (tie.spec
     (λ c. let pre = c.requires in omega (arith, pre.1))
