@@ -13,72 +13,63 @@ use Rattle.lists.proofs.Placing.{Gathering, gather_begins, gather_goes_on, gathe
 use Rattle.lists.proofs.listed.clock_listed.Statement.{statement}
 use Rattle.lists.proofs.listed.clock_listed.Tie as tie
 
-abbrev invariant-loop : tie.invariant-loop
-invariant-loop image list nets state₀ j₀ state j = (j ≤ length list) × Gathering (λ i. get_or nets (operand_at image (sizes_of image).nets i 0) 0) list state j
+abbrev invariant-loop-j : tie.invariant-loop-j
+invariant-loop-j image list nets state₀ j₀ state j = (j ≤ length list) × Gathering (λ i. get_or nets (operand_at image (sizes_of image).nets i 0) 0) list state j
 
-abbrev decreases-loop : tie.decreases-loop
-decreases-loop image list nets state₀ j₀ state j = length list - j
+abbrev decreases-loop-j : tie.decreases-loop-j
+decreases-loop-j image list nets state₀ j₀ state j = length list - j
 
-loop-holds : tie.Need-loop-init invariant-loop decreases-loop
-loop-holds c = (omega arith, gather_begins _ _ _ c.before.before.before.before.requires.1.1)
+loop-holds : tie.Need-loop-j-init invariant-loop-j decreases-loop-j
+loop-holds c = (omega arith, gather_begins _ _ _ c.requires.1.1)
 
 -- a net that is listed
-module _ (c : tie.In-loop invariant-loop decreases-loop) where
-  abbrev start : tie.Start invariant-loop decreases-loop
-  start = c.before.before.before.before.before.before
+module _ (c : tie.In-loop-j invariant-loop-j decreases-loop-j) where
 
-  checked : Checked start.args.image.now
-  checked = (check_none _).0 start.pre.0.0
+  checked : Checked c.args.image.now
+  checked = (check_none _).0 c.requires.0.0
 
-  listed_below : get_or start.args.list.now c.before.loop.j 0 < (sizes_of start.args.image.now).nets
-  listed_below = (listed_places start.args.image.now refl REG start.pre.1.0).within.below _ c.loop-test.true
+  listed_below : get_or c.args.list.now c.loop-j.j 0 < (sizes_of c.args.image.now).nets
+  listed_below = (listed_places c.args.image.now refl REG c.requires.1.0).within.below _ c.loop-j-test.true
 
-  is-register : kind_at start.args.image.now (get_or start.args.list.now c.before.loop.j 0) ≡ REG
-  is-register = listed_kind start.args.image.now refl REG start.pre.1.0 _ c.loop-test.true
+  is-register : kind_at c.args.image.now (get_or c.args.list.now c.loop-j.j 0) ≡ REG
+  is-register = listed_kind c.args.image.now refl REG c.requires.1.0 _ c.loop-j-test.true
 
   -- its pin names a net
-  named : {p : ℕ} → p ≡ operand_at start.args.image.now (sizes_of start.args.image.now).nets (get_or start.args.list.now c.before.loop.j 0) 0
-      → pin_net p < (sizes_of start.args.image.now).nets
+  named : {p : ℕ} → p ≡ operand_at c.args.image.now (sizes_of c.args.image.now).nets (get_or c.args.list.now c.loop-j.j 0) 0
+      → pin_net p < (sizes_of c.args.image.now).nets
   named e = rw e (pin_below checked refl _ listed_below is-register)
 
-cast-operand-of : tie.Need-overflow-cast-operand-of invariant-loop decreases-loop
-cast-operand-of c = omega (arith, c.shared-slice-known4.given c.before.before.loop.j)
+cast-operand-of : tie.Need-overflow_cast-list invariant-loop-j decreases-loop-j
+cast-operand-of c = omega (arith, c.shared_slice_known-in-loop-j-1.given c.loop-j.j)
 
-operand-of-requires : tie.Need-operand-of-requires invariant-loop decreases-loop
+operand-of-requires : tie.Need-operand_of-a-requires invariant-loop-j decreases-loop-j
 operand-of-requires c κs =
-    let turn = c.before in
-    (listed_below turn, omega arith, (checked turn).exact)
+    (listed_below c.before, omega arith, (checked c.before).exact)
 
-shared-slice-read-state : tie.Need-shared-slice-read-state invariant-loop decreases-loop
+shared-slice-read-state : tie.Need-bounds-nets-a invariant-loop-j decreases-loop-j
 shared-slice-read-state c =
-    let read = c.before in
-    let turn = read.before.before in
-    let pre = (start turn).requires in
-    let pin = read.operand-of.result in
-    omega (arith, pre.0.1, named turn read.operand-of.ensures.0, pin_most pin, (checked turn).few_nets)
+    let pre = c.requires in
+    let pin = c.operand_of-a.result in
+    omega (arith, pre.0.1, named c.before.before.before c.operand_of-a.ensures.0, pin_most pin, (checked c.before.before.before).few_nets)
 
-slice-write-state : tie.Need-slice-write-state invariant-loop decreases-loop
+slice-write-state : tie.Need-bounds-state-j invariant-loop-j decreases-loop-j
 slice-write-state c =
-    let turn = c.before.before.before in
-    omega (arith, gather_room turn.before.loop.invariant.1, turn.loop-test.true)
+    omega (arith, gather_room c.loop-j.invariant.1, c.loop-j-test.true)
 
-loop-again : tie.Need-loop-preserved invariant-loop decreases-loop
+loop-again : tie.Need-loop-j-preserved invariant-loop-j decreases-loop-j
 loop-again c =
-    let read = c.before in
-    let turn = read.before.before in
-    let at = turn.before in
-    let below = turn.loop-test.true in
-    (omega arith, rw read.operand-of.ensures.0 (gather_goes_on below at.loop.invariant.1))
+    let below = c.loop-j-test.true in
+    (omega arith, rw c.operand_of-a.ensures.0 (gather_goes_on below c.loop-j.invariant.1))
 
-returns : tie.Need-returns invariant-loop decreases-loop
-returns c = gather_ends c.loop-test.false c.before.loop.invariant.1
+returns : tie.Need-returns invariant-loop-j decreases-loop-j
+returns c = gather_ends c.loop-j-test.false c.loop-j.invariant.1
 
-pub clock-listed-spec : {M : Type 1} → statement M
-clock-listed-spec =
+pub clock_listed_spec : {M : Type 1} → statement M
+clock_listed_spec =
     tie.close
     (tie.spec
-    invariant-loop
-    decreases-loop
+    invariant-loop-j
+    decreases-loop-j
     loop-holds
     (λ c. search rules)
     (λ c. search rules)
@@ -89,5 +80,5 @@ clock-listed-spec =
     (λ c. search rules)
     (λ c. search rules)
     loop-again
-    (λ c. let at = c.before in gather_room at.loop.invariant.1 ∙ sym at.before.before.before.before.before.requires.1.1)
+    (λ c. gather_room c.loop-j.invariant.1 ∙ sym c.requires.1.1)
     returns)

@@ -7,27 +7,25 @@ use Rattle.lists.proofs.listed.first_listed.Statement.{statement}
 use Rattle.lists.proofs.listed.first_listed.Tie as tie
 
 -- a flow of this cycle
-returns-3 : tie.Need-returns-3
+returns-3 : tie.Need-returns
 unfolding first_of
 returns-3 c =
-    let judged = c.before.before in
-    let flow-now = sym judged.verdict-listed.ensures ∙ ap verdict_in c.enum-told4.given.1 in
-    rw (flow-now, judged.before.enum-told2.given.1, c.enum-told4.given.1)
+    let flow-now = sym c.verdict_listed-w.ensures ∙ ap verdict_in c.in_default-w.is in
+    rw (flow-now, c.in_default.is, c.in_default-w.is)
 
 -- an earlier flow, and none at all
-returns : tie.Need-returns
+returns : tie.Need-returns-in-Flow
 unfolding first_of
-returns c = rw c.enum_told.given.1
+returns c = rw c.in-Flow.is
 
-returns-2 : tie.Need-returns-2
+returns-2 : tie.Need-returns-in-Clear
 unfolding first_of
 returns-2 c =
-    let judged = c.before.before in
-    let clear-now = sym judged.verdict-listed.ensures ∙ ap verdict_in c.enum-told3.given.1 in
-    rw (clear-now, judged.before.enum-told2.given.1)
+    let clear-now = sym c.verdict_listed-w.ensures ∙ ap verdict_in c.in-Clear.is in
+    rw (clear-now, c.in_default.is)
 
-pub first-listed-spec : {M : Type 1} → statement M
-first-listed-spec =
+pub first_listed_spec : {M : Type 1} → statement M
+first_listed_spec =
     tie.close
     (tie.spec
     (λ c. search rules)

@@ -10,56 +10,46 @@ use Rattle.lists.proofs.Placing.{put_begins, put_goes_on}
 use Rattle.lists.proofs.listed.put_bytes.Statement.{statement}
 use Rattle.lists.proofs.listed.put_bytes.Tie as tie
 
-abbrev invariant-loop : tie.invariant-loop
-invariant-loop width list bytes nets₀ j₀ nets j = (j ≤ length list) × Put width list bytes nets₀ nets j
+abbrev invariant-loop-j : tie.invariant-loop-j
+invariant-loop-j width list bytes nets₀ j₀ nets j = (j ≤ length list) × Put width list bytes nets₀ nets j
 
-abbrev decreases-loop : tie.decreases-loop
-decreases-loop width list bytes nets₀ j₀ nets j = length list - j
+abbrev decreases-loop-j : tie.decreases-loop-j
+decreases-loop-j width list bytes nets₀ j₀ nets j = length list - j
 
-loop-holds : tie.Need-loop-init invariant-loop decreases-loop
+loop-holds : tie.Need-loop-j-init invariant-loop-j decreases-loop-j
 loop-holds c = (omega arith, put_begins)
 
--- a turn, and the entry of the function
-abbrev start : tie.At-loop invariant-loop decreases-loop → tie.Start invariant-loop decreases-loop
-start c = c.before.before.before.before
+cast-put-both : tie.Need-overflow_cast-list invariant-loop-j decreases-loop-j
+cast-put-both c = omega (arith, c.shared_slice_known-in-loop-j-2-1.given c.loop-j.j)
 
-cast-put-both : tie.Need-overflow-cast-put-both invariant-loop decreases-loop
-cast-put-both c = omega (arith, c.shared-slice-known4.given c.before.before.before.before.loop.j)
+inverse-requires : tie.Need-inverse-requires invariant-loop-j decreases-loop-j
+inverse-requires c κs = let pre = c.requires in pre.0.codes _
 
-inverse-requires : tie.Need-inverse-requires invariant-loop decreases-loop
-inverse-requires c κs = let pre = (start c.before.before.before.before).pre in pre.0.codes _
-
-put-both-requires : tie.Need-put-both-requires invariant-loop decreases-loop
+put-both-requires : tie.Need-put_both-requires invariant-loop-j decreases-loop-j
 put-both-requires c κs =
-    let turn = c.before.before.before.before in
-    let at = turn.before in
-    let pre = (start at).requires in
-    let below = pre.1.1.within.below _ turn.loop-test.true in
-    (omega arith, omega (arith, at.loop.invariant.1.size, pre.1.2))
+    let pre = c.requires in
+    let below = pre.1.1.within.below _ c.loop-j-test.true in
+    (omega arith, omega (arith, c.loop-j.invariant.1.size, pre.1.2))
 
-loop-again : tie.Need-loop-preserved invariant-loop decreases-loop
+loop-again : tie.Need-loop-j-preserved invariant-loop-j decreases-loop-j
 loop-again c =
-    let put = c.before.before in
-    let turn = put.before.before.before.before.before in
-    let at = turn.before in
-    let pre = (start at).requires in
-    let below = turn.loop-test.true in
-    (omega arith, rw (put.put_both.ensures, put.before.inverse.ensures, add-one at.loop.j) (put_goes_on pre.1.1 pre.1.2 pre.0 below at.loop.invariant.1))
+    let pre = c.requires in
+    let below = c.loop-j-test.true in
+    (omega arith, rw (c.put_both.ensures, c.inverse.ensures, add-one c.loop-j.j) (put_goes_on pre.1.1 pre.1.2 pre.0 below c.loop-j.invariant.1))
 
-returns : tie.Need-returns invariant-loop decreases-loop
+returns : tie.Need-returns invariant-loop-j decreases-loop-j
 returns c =
-    let at = c.before in
-    let e : at.loop.j ≡ length (start at).args.list.now = omega (arith, at.loop.invariant.0, c.loop-test.false) in
-    rw e at at.loop.invariant.1
+    let e : c.loop-j.j ≡ length c.args.list.now = omega (arith, c.loop-j.invariant.0, c.loop-j-test.false) in
+    rw e at c.loop-j.invariant.1
 
-pub put-bytes-spec : {M : Type 1} → statement M
-put-bytes-spec =
+pub put_bytes_spec : {M : Type 1} → statement M
+put_bytes_spec =
     tie.close
     (tie.spec
-    invariant-loop
-    decreases-loop
+    invariant-loop-j
+    decreases-loop-j
     loop-holds
-    (λ c. let turn = c.before in omega (arith, (start turn.before).pre.1.0, turn.loop-test.true))
+    (λ c. omega (arith, c.requires.1.0, c.loop-j-test.true))
     (λ c. search rules)
     (λ c. search rules)
     cast-put-both
@@ -68,5 +58,5 @@ put-bytes-spec =
     (λ c. search rules)
     (λ c. search rules)
     loop-again
-    (λ c. c.before.loop.invariant.1.size)
+    (λ c. c.loop-j.invariant.1.size)
     returns)

@@ -8,39 +8,36 @@ use Rattle.lists.proofs.Placing.{Gathering, gather_begins, gather_goes_on, gathe
 use Rattle.lists.proofs.listed.take_bytes.Statement.{statement}
 use Rattle.lists.proofs.listed.take_bytes.Tie as tie
 
-abbrev invariant-loop : tie.invariant-loop
-invariant-loop list nets bytes₀ j₀ bytes j = (j ≤ length list) × Gathering (λ i. get_or nets i 0) list bytes j
+abbrev invariant-loop-j : tie.invariant-loop-j
+invariant-loop-j list nets bytes₀ j₀ bytes j = (j ≤ length list) × Gathering (λ i. get_or nets i 0) list bytes j
 
-abbrev decreases-loop : tie.decreases-loop
-decreases-loop list nets bytes₀ j₀ bytes j = length list - j
+abbrev decreases-loop-j : tie.decreases-loop-j
+decreases-loop-j list nets bytes₀ j₀ bytes j = length list - j
 
-loop-holds : tie.Need-loop-init invariant-loop decreases-loop
+loop-holds : tie.Need-loop-j-init invariant-loop-j decreases-loop-j
 loop-holds c = (omega arith, gather_begins _ _ _ c.requires.0)
 
-cast-bytes : tie.Need-overflow-cast-bytes invariant-loop decreases-loop
-cast-bytes c = omega (arith, c.shared-slice-known.given c.before.before.loop.j)
+cast-bytes : tie.Need-overflow_cast-bytes invariant-loop-j decreases-loop-j
+cast-bytes c = omega (arith, c.shared_slice_known-1.given c.loop-j.j)
 
-shared-slice-read-bytes-2 : tie.Need-shared-slice-read-bytes-2 invariant-loop decreases-loop
-shared-slice-read-bytes-2 c = let turn = c.before.before in turn.before.before.requires.1.below _ turn.loop-test.true
+shared-slice-read-bytes-2 : tie.Need-bounds-nets-list invariant-loop-j decreases-loop-j
+shared-slice-read-bytes-2 c = c.requires.1.below _ c.loop-j-test.true
 
-slice-write-bytes : tie.Need-slice-write-bytes invariant-loop decreases-loop
+slice-write-bytes : tie.Need-bounds-bytes-j invariant-loop-j decreases-loop-j
 slice-write-bytes c =
-    let turn = c.before.before in
-    omega (arith, gather_room turn.before.loop.invariant.1, turn.loop-test.true)
+    omega (arith, gather_room c.loop-j.invariant.1, c.loop-j-test.true)
 
-loop-again : tie.Need-loop-preserved invariant-loop decreases-loop
+loop-again : tie.Need-loop-j-preserved invariant-loop-j decreases-loop-j
 loop-again c =
-    let turn = c.before.before in
-    let at = turn.before in
-    let below = turn.loop-test.true in
-    (omega arith, gather_goes_on below at.loop.invariant.1)
+    let below = c.loop-j-test.true in
+    (omega arith, gather_goes_on below c.loop-j.invariant.1)
 
-pub take-bytes-spec : {M : Type 1} → statement M
-take-bytes-spec =
+pub take_bytes_spec : {M : Type 1} → statement M
+take_bytes_spec =
     tie.close
     (tie.spec
-    invariant-loop
-    decreases-loop
+    invariant-loop-j
+    decreases-loop-j
     loop-holds
     (λ c. search rules)
     (λ c. search rules)
@@ -50,5 +47,5 @@ take-bytes-spec =
     (λ c. search rules)
     (λ c. search rules)
     loop-again
-    (λ c. let at = c.before in gather_room at.loop.invariant.1 ∙ sym at.before.requires.0)
-    (λ c. gather_ends c.loop-test.false c.before.loop.invariant.1))
+    (λ c. gather_room c.loop-j.invariant.1 ∙ sym c.requires.0)
+    (λ c. gather_ends c.loop-j-test.false c.loop-j.invariant.1))

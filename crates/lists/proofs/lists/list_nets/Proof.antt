@@ -10,50 +10,46 @@ use Rattle.lists.proofs.Placing.{places_selected, list_goes_on}
 use Rattle.lists.proofs.lists.list_nets.Statement.{statement}
 use Rattle.lists.proofs.lists.list_nets.Tie as tie
 
-abbrev invariant-loop : tie.invariant-loop
-invariant-loop image kind list₀ found₀ i₀ list found i = Pass (places_selected kind) image (sizes_of image).nets list₀ list found i
+abbrev invariant-loop-found : tie.invariant-loop-found
+invariant-loop-found image kind list₀ found₀ i₀ list found i = Pass (places_selected kind) image (sizes_of image).nets list₀ list found i
 
-abbrev decreases-loop : tie.decreases-loop
-decreases-loop image kind list₀ found₀ i₀ list found i = (sizes_of image).nets - i
+abbrev decreases-loop-found : tie.decreases-loop-found
+decreases-loop-found image kind list₀ found₀ i₀ list found i = (sizes_of image).nets - i
 
-checked : (c : tie.Start invariant-loop decreases-loop) → Checked c.args.image.now
+checked : (c : tie.Start invariant-loop-found decreases-loop-found) → Checked c.args.image.now
 checked c = (check_none _).0 c.requires.0
 
-loop-holds : tie.Need-loop-init invariant-loop decreases-loop
+loop-holds : tie.Need-loop-found-init invariant-loop-found decreases-loop-found
 loop-holds c =
-    let start = c.before.before in
-    pass_begins _ (checked start) refl start.requires.1
+    pass_begins _ (checked c.before.before) refl c.requires.1
 
 -- a net is there
-below : (c : tie.In-loop invariant-loop decreases-loop) → c.before.loop.i < (sizes_of c.before.before.before.before.args.image.now).nets
-below c = pass_below c.before.loop.invariant (omega (arith, c.loop-test.true))
+below : (c : tie.In-loop-found invariant-loop-found decreases-loop-found) → c.loop-found.i < (sizes_of c.args.image.now).nets
+below c = pass_below c.loop-found.invariant (omega (arith, c.loop-found-test.true))
 
-few : (c : tie.In-loop invariant-loop decreases-loop) → c.before.loop.i < 8192
+few : (c : tie.In-loop-found invariant-loop-found decreases-loop-found) → c.loop-found.i < 8192
 few c = omega (arith, below c, (checked c.before.before.before.before).few_nets)
 
-cast-list : tie.Need-overflow-cast-list invariant-loop decreases-loop
+cast-list : tie.Need-overflow_cast-list invariant-loop-found decreases-loop-found
 cast-list c = omega (arith, few c)
 
-kind-of-requires : tie.Need-kind-of-requires invariant-loop decreases-loop
-kind-of-requires c κs = omega (arith, below c, c.before.loop.invariant.exact)
+kind-of-requires : tie.Need-kind_of-requires invariant-loop-found decreases-loop-found
+kind-of-requires c κs = omega (arith, below c, c.loop-found.invariant.exact)
 
-add-found : tie.Need-overflow-add-found invariant-loop decreases-loop
+add-found : tie.Need-overflow_add-found invariant-loop-found decreases-loop-found
 add-found c =
-    let turn = c.before.before in
-    omega (arith, c.one-if.ensures.1, turn.loop-test.true)
+    omega (arith, c.one_if-found.ensures.1, c.loop-found-test.true)
 
-loop-again : tie.Need-loop-preserved invariant-loop decreases-loop
+loop-again : tie.Need-loop-found-preserved invariant-loop-found decreases-loop-found
 loop-again c =
-    let read = c.before in
-    let turn = read.before in
-    rw (c.one-if.ensures.0, read.kind-of.ensures) (list_goes_on turn.before.loop.invariant (below turn))
+    rw (c.one_if-found.ensures.0, c.kind_of.ensures) (list_goes_on c.loop-found.invariant (below c.before.before))
 
-pub list-nets-spec : {M : Type 1} → statement M
-list-nets-spec =
+pub list_nets_spec : {M : Type 1} → statement M
+list_nets_spec =
     tie.close
     (tie.spec
-    invariant-loop
-    decreases-loop
+    invariant-loop-found
+    decreases-loop-found
     loop-holds
     cast-list
     (λ c. search rules)
@@ -64,5 +60,5 @@ list-nets-spec =
     (λ c. omega (arith, few c.before.before))
     (λ c. omega (arith, below c.before.before))
     loop-again
-    (λ c. c.before.loop.invariant.size)
-    (λ c. pass_full c.before.loop.invariant c.loop-test.false))
+    (λ c. c.loop-found.invariant.size)
+    (λ c. pass_full c.loop-found.invariant c.loop-found-test.false))

@@ -7,24 +7,24 @@ use Rattle.image.specs.Image.{kind_at}
 use Rattle.lists.proofs.lists.lowest_gate.Statement.{statement}
 use Rattle.lists.proofs.lists.lowest_gate.Tie as tie
 
-abbrev invariant-loop : tie.invariant-loop
-invariant-loop image n i₀ i = (i ≤ n) × ((j : ℕ) → j < i → kind_at image j < 3)
+abbrev invariant-loop-i : tie.invariant-loop-i
+invariant-loop-i image n i₀ i = (i ≤ n) × ((j : ℕ) → j < i → kind_at image j < 3)
 
-abbrev decreases-loop : tie.decreases-loop
-decreases-loop image n i₀ i = n - i
+abbrev decreases-loop-i : tie.decreases-loop-i
+decreases-loop-i image n i₀ i = n - i
 
-loop-holds : tie.Need-loop-init invariant-loop decreases-loop
+loop-holds : tie.Need-loop-i-init invariant-loop-i decreases-loop-i
 loop-holds c = (search rules, λ i h. absurd (omega arith))
 
-loop-again : tie.Need-loop-preserved invariant-loop decreases-loop
-loop-again c = (search rules, below_more _ _ c.before.before.before.loop.invariant.1 (rw c.before.kind-of.ensures at c.if1.false))
+loop-again : tie.Need-loop-i-preserved invariant-loop-i decreases-loop-i
+loop-again c = (search rules, below_more _ _ c.loop-i.invariant.1 (rw c.kind_of.ensures at c.if-kind_of-ge-NOT.false))
 
-pub lowest-gate-spec : {M : Type 1} → statement M
-lowest-gate-spec =
+pub lowest_gate_spec : {M : Type 1} → statement M
+lowest_gate_spec =
     tie.close
     (tie.spec
-    invariant-loop
-    decreases-loop
+    invariant-loop-i
+    decreases-loop-i
     loop-holds
     (λ c κs. search rules)
     (λ c. search rules)

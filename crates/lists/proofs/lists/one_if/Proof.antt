@@ -16,5 +16,5 @@ one-if false = (refl, lit≤ tt)
 returns : tie.Need-returns
 returns c = one-if c.args.flag
 
-pub one-if-spec : {M : Type 1} → statement M
-one-if-spec = tie.close (tie.spec (λ c. search rules) returns)
+pub one_if_spec : {M : Type 1} → statement M
+one_if_spec = tie.close (tie.spec (λ c. search rules) returns)
