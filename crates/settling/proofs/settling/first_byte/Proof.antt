@@ -19,7 +19,7 @@ small : (b : Bool) (a : ℕ) → a < 2 → bool_byte b * a < 256
 small true a h = rw (one-mul a) (omega arith)
 small false a h = rw (zero-mul a) (omega arith)
 
-mul-result : tie.Need-overflow-mul-result
+mul-result : tie.Need-overflow_mul-result
 mul-result c = record { fits = small (eqb c.args.kind CONST) (c.args.a % 2) (omega arith) }
 
 low : (b : Bool) (a : ℕ) → a < 2 → bool_byte b * a < 2
@@ -29,5 +29,5 @@ low false a h = rw (zero-mul a) (omega arith)
 returns : tie.Need-returns
 returns c = (picked (eqb c.args.kind CONST) (c.args.a % 2), low (eqb c.args.kind CONST) (c.args.a % 2) (omega arith))
 
-pub first-byte-spec : {M : Type 1} → statement M
-first-byte-spec = tie.close (tie.spec (λ c. search rules) (λ c. search rules) mul-result returns)
+pub first_byte_spec : {M : Type 1} → statement M
+first_byte_spec = tie.close (tie.spec (λ c. search rules) (λ c. search rules) mul-result returns)

@@ -25,22 +25,22 @@ checked c = (check_none _).0 c.requires.1.0
 abbrev n : tie.Start → ℕ
 n c = (sizes_of c.args.image.now).nets
 
-kind-of-requires : tie.Need-kind-of-requires
+kind-of-requires : tie.Need-kind_of-kind-requires
 kind-of-requires c κs = let start = c.before.before.before in omega (arith, (checked start).exact, start.requires.1.1)
 
 -- the function's entry, from where its kind is read
-abbrev start : tie.After-kind-of → tie.Start
+abbrev start : tie.After-kind_of-kind → tie.Start
 start c = c.before.before.before.before
 
-is-gate : (c : tie.Then1) → let args = (start c.before).args in 3 ≤ kind_at args.image.now args.i
-is-gate c = rw c.before.kind-of.ensures at c.if1.true
+is-gate : (c : tie.Then-kind-ge-NOT) → let args = (start c.before).args in 3 ≤ kind_at args.image.now args.i
+is-gate c = rw c.before.kind_of-kind.ensures at c.if-kind-ge-NOT.true
 
-pins : (c : tie.Then1)
+pins : (c : tie.Then-kind-ge-NOT)
     → let at = start c.before in
     let s = at.args.image.now in
     let i = at.args.i in
     Pins (n at) (net (kind_at s i) (operand_at s (n at) i 0) (operand_at s (n at) i 1) (operand_at s (n at) i 2))
-pins c = let at = start c.before in pins_there (checked at) _ at.pre.1.1 (is-gate c)
+pins c = let at = start c.before in pins_there (checked at) _ at.requires.1.1 (is-gate c)
 
 reads : (c : tie.Start) → (k : _) → k < 3 → (c.args.i < n c) × (k < 3) × (length c.args.image.now ≡ 8 + 7 * n c)
 reads c k h = (c.requires.1.1, h, (checked c).exact)
@@ -50,14 +50,14 @@ named : {p q m : ℕ} → p ≡ q → pin_net q < m → pin_net p < m
 named e h = rw e h
 
 -- the pins a, b and c as they were read
-module _ (c : tie.After-operand-of3) where
-  abbrev second : tie.After-operand-of2
+module _ (c : tie.After-operand_of-c) where
+  abbrev second : tie.After-operand_of-b
   second = c.before
 
-  abbrev first : tie.After-operand-of
+  abbrev first : tie.After-operand_of-a
   first = second.before
 
-  abbrev taken : tie.Then1
+  abbrev taken : tie.Then-kind-ge-NOT
   taken = first.before
 
   abbrev begun : tie.Start
@@ -66,65 +66,65 @@ module _ (c : tie.After-operand-of3) where
   few : n begun ≤ 8192
   few = (checked begun).few_nets
 
-  named-a : pin_net first.operand-of.result < n begun
-  named-a = named first.operand-of.ensures.0 (pins taken).a
+  named-a : pin_net first.operand_of-a.result < n begun
+  named-a = named first.operand_of-a.ensures.0 (pins taken).a
 
-  named-b : pin_net second.operand-of2.result < n begun
-  named-b = named second.operand-of2.ensures.0 (pins taken).b
+  named-b : pin_net second.operand_of-b.result < n begun
+  named-b = named second.operand_of-b.ensures.0 (pins taken).b
 
-  named-c : pin_net c.operand-of3.result < n begun
-  named-c = named c.operand-of3.ensures.0 (pins taken).c
+  named-c : pin_net c.operand_of-c.result < n begun
+  named-c = named c.operand_of-c.ensures.0 (pins taken).c
 
   there : (p : ℕ) → pin_net p < n begun → p < length begun.args.nets.now
-  there p h = rw begun.pre.1.2 (pin_there p few h)
+  there p h = rw begun.requires.1.2 (pin_there p few h)
 
   both : Both begun.args.width begun.args.nets.now (n begun)
-  both = begun.pre.1.3
+  both = begun.requires.1.3
 
-slice-read-code-by : tie.Need-slice-read-code-by
+slice-read-code-by : tie.Need-bounds-nets-a
 slice-read-code-by c = let read = c.before in there read _ (named-a read)
 
-slice-read-code-by-2 : tie.Need-slice-read-code-by-2
+slice-read-code-by-2 : tie.Need-bounds-nets-b
 slice-read-code-by-2 c = let read = c.before.before in there read _ (named-b read)
 
-slice-read-code-by-3 : tie.Need-slice-read-code-by-3
+slice-read-code-by-3 : tie.Need-bounds-nets-c
 slice-read-code-by-3 c = let read = c.before.before.before in there read _ (named-c read)
 
 -- what is read there is a code
-module _ (c : tie.After-slice-known4) where
-  abbrev read : tie.After-operand-of3
+module _ (c : tie.After-slice_known-then-kind-ge-NOT-3-1) where
+  abbrev read : tie.After-operand_of-c
   read = c.before.before.before
 
   abbrev nets : List ℕ
   nets = (begun read).args.nets.now
 
-  code-a : code_by (begun read).args.width (get_or nets (first read).operand-of.result 0) ≡ true
+  code-a : code_by (begun read).args.width (get_or nets (first read).operand_of-a.result 0) ≡ true
   code-a = pin_coded (both read) _ (named-a read)
 
-  code-b : code_by (begun read).args.width (get_or nets (second read).operand-of2.result 0) ≡ true
+  code-b : code_by (begun read).args.width (get_or nets (second read).operand_of-b.result 0) ≡ true
   code-b = pin_coded (both read) _ (named-b read)
 
-  code-c : code_by (begun read).args.width (get_or nets read.operand-of3.result 0) ≡ true
+  code-c : code_by (begun read).args.width (get_or nets read.operand_of-c.result 0) ≡ true
   code-c = pin_coded (both read) _ (named-c read)
 
-code-by-requires : tie.Need-code-by-requires
+code-by-requires : tie.Need-code_by-x-requires
 code-by-requires c κs =
     let at = taken (read c) in
-    (((begun (read c)).pre.0, rw at.before.kind-of.ensures (pins at).kind), (code-a c, code-b c, code-c c))
+    (((begun (read c)).requires.0, rw at.before.kind_of-kind.ensures (pins at).kind), (code-a c, code-b c, code-c c))
 
 inverse-requires : tie.Need-inverse-requires
 inverse-requires c κs =
     let gate = c.before in
     let known = gate.before in
-    rw gate.code_by.ensures (rule_code _ _ _ _ _ (code-a known) (code-b known) (code-c known))
+    rw gate.code_by-x.ensures (rule_code _ _ _ _ _ (code-a known) (code-b known) (code-c known))
 
-put-both-requires : tie.Need-put-both-requires
+put-both-requires : tie.Need-put_both-requires
 put-both-requires c κs =
     let known = c.before.before.before in
     let at = begun (read known) in
-    (omega (arith, at.pre.1.1, few (read known)), omega (arith, at.pre.1.1, few (read known), at.pre.1.2))
+    (omega (arith, at.requires.1.1, few (read known)), omega (arith, at.requires.1.1, few (read known), at.requires.1.2))
 
-returns : tie.Need-returns
+returns : tie.Need-returns-then-kind-ge-NOT
 returns c =
     let put = c.before.before in
     let inverted = put.before in
@@ -132,18 +132,18 @@ returns c =
     let at = read gate.before in
     let reads = pin_place (both at) in
     put.put_both.ensures
-    ∙ takes_code _ _ _ _ (taken at).before.kind-of.ensures (is-gate (taken at))
-    (first at).operand-of.ensures.0 (second at).operand-of2.ensures.0 at.operand-of3.ensures.0
-    (reads _ (named-a at)) (reads _ (named-b at)) (reads _ (named-c at)) gate.code_by.ensures inverted.inverse.ensures
+    ∙ takes_code _ _ _ _ (taken at).before.kind_of-kind.ensures (is-gate (taken at))
+    (first at).operand_of-a.ensures.0 (second at).operand_of-b.ensures.0 at.operand_of-c.ensures.0
+    (reads _ (named-a at)) (reads _ (named-b at)) (reads _ (named-c at)) gate.code_by-x.ensures inverted.inverse.ensures
 
-returns-2 : tie.Need-returns-2
+returns-2 : tie.Need-returns-else-kind-ge-NOT
 unfolding settled_at
 returns-2 c =
     let args = (start c.before).args in
-    rw (lt-leb 3 (kind_at args.image.now args.i) (rw c.before.kind-of.ensures at c.if1.false))
+    rw (lt-leb 3 (kind_at args.image.now args.i) (rw c.before.kind_of-kind.ensures at c.if-kind-ge-NOT.false))
 
-pub settle-spec : {M : Type 1} → statement M
-settle-spec =
+pub settle_spec : {M : Type 1} → statement M
+settle_spec =
     tie.close
     (tie.spec
     kind-of-requires

@@ -15,17 +15,17 @@ use Rattle.settling.proofs.Gatewise.{settle_begins, settle_next}
 use Rattle.settling.proofs.settling.settle_fours.Statement.{statement}
 use Rattle.settling.proofs.settling.settle_fours.Tie as tie
 
-abbrev invariant-loop : tie.invariant-loop
-invariant-loop image n t from nets₀ i₀ nets i = (i ≤ n) × Settled 4 image nets₀ nets i
+abbrev invariant-loop-i : tie.invariant-loop-i
+invariant-loop-i image n t from nets₀ i₀ nets i = (i ≤ n) × Settled 4 image nets₀ nets i
 
-abbrev decreases-loop : tie.decreases-loop
-decreases-loop image n t from nets₀ i₀ nets i = n - i
+abbrev decreases-loop-i : tie.decreases-loop-i
+decreases-loop-i image n t from nets₀ i₀ nets i = n - i
 
-loop-holds : tie.Need-loop-init invariant-loop decreases-loop
+loop-holds : tie.Need-loop-i-init invariant-loop-i decreases-loop-i
 loop-holds c = let pre = c.before.before.before.requires in (pre.1.1.0, settle_begins (rw pre.1.0.1 at pre.1.0.3) pre.1.1.1)
 
 -- what each call of `settle` asks, and what it gives, wherever settling has come to
-module _ (c : tie.Start invariant-loop decreases-loop) where
+module _ (c : tie.Start invariant-loop-i decreases-loop-i) where
   checked : Checked c.args.image.now
   checked = (check_none _).0 c.requires.1.0.0
 
@@ -48,88 +48,88 @@ module _ (c : tie.Start invariant-loop decreases-loop) where
     next : {exit : List ℕ} {k : ℕ} → exit ≡ settled_at 4 c.args.image.now j nets → k ≡ suc j → Settled 4 c.args.image.now c.args.nets.now exit k
     next = settle_next checked below size w
 
-add-loop : tie.Need-overflow-add-loop invariant-loop decreases-loop
-add-loop c = omega (arith, c.loop.invariant.0, few c.before.before.before.before)
+add-loop : tie.Need-overflow_add-i invariant-loop-i decreases-loop-i
+add-loop c = omega (arith, c.loop-i.invariant.0, few c.before.before.before.before)
 
 -- at the head of a turn
-module _ (c : tie.In-loop invariant-loop decreases-loop) where
-  abbrev start : tie.Start invariant-loop decreases-loop
+module _ (c : tie.In-loop-i invariant-loop-i decreases-loop-i) where
+  abbrev start : tie.Start invariant-loop-i decreases-loop-i
   start = c.before.before.before.before.before
 
   abbrev i : ℕ
-  i = c.before.loop.i
+  i = c.before.loop-i.i
 
   abbrev After : List ℕ → ℕ → Type 0
   After nets k = Settled 4 start.args.image.now start.args.nets.now nets (i + k)
 
   four : i + 3 < start.args.n
-  four = c.loop-test.true
+  four = c.loop-i-test.true
 
   small : i + 4 ≤ 8192
   small = omega (arith, four, few start)
 
 -- after each of the four
-module _ (c : tie.After-settle invariant-loop decreases-loop) where
-  abbrev turn₁ : tie.In-loop invariant-loop decreases-loop
+module _ (c : tie.After-settle invariant-loop-i decreases-loop-i) where
+  abbrev turn₁ : tie.In-loop-i invariant-loop-i decreases-loop-i
   turn₁ = c.before.before
 
-  one : After turn₁ c.settle.new.1.1.1.1.0 1
-  one = next (start turn₁) turn₁.before.loop.inv.1 (omega (arith, four turn₁)) c.settle.ensures (omega arith)
+  one : After turn₁ c.settle.new.nets 1
+  one = next (start turn₁) turn₁.before.loop-i.invariant.1 (omega (arith, four turn₁)) c.settle.ensures (omega arith)
 
-module _ (c : tie.After-settle2 invariant-loop decreases-loop) where
-  abbrev before₂ : tie.After-settle invariant-loop decreases-loop
+module _ (c : tie.After-settle-in-loop-i invariant-loop-i decreases-loop-i) where
+  abbrev before₂ : tie.After-settle invariant-loop-i decreases-loop-i
   before₂ = c.before.before.before.before
 
-  abbrev turn₂ : tie.In-loop invariant-loop decreases-loop
+  abbrev turn₂ : tie.In-loop-i invariant-loop-i decreases-loop-i
   turn₂ = turn₁ before₂
 
-  two : After turn₂ c.settle2.new.1.1.1.1.0 2
-  two = next (start turn₂) (one before₂) (omega (arith, four turn₂)) c.settle2.ensures (omega arith)
+  two : After turn₂ c.settle-in-loop-i.new.nets 2
+  two = next (start turn₂) (one before₂) (omega (arith, four turn₂)) c.settle-in-loop-i.ensures (omega arith)
 
-module _ (c : tie.After-settle3 invariant-loop decreases-loop) where
-  abbrev before₃ : tie.After-settle2 invariant-loop decreases-loop
+module _ (c : tie.After-settle-in-loop-i-2 invariant-loop-i decreases-loop-i) where
+  abbrev before₃ : tie.After-settle-in-loop-i invariant-loop-i decreases-loop-i
   before₃ = c.before.before.before.before
 
-  abbrev turn₃ : tie.In-loop invariant-loop decreases-loop
+  abbrev turn₃ : tie.In-loop-i invariant-loop-i decreases-loop-i
   turn₃ = turn₂ before₃
 
-  three : After turn₃ c.settle3.new.1.1.1.1.0 3
-  three = next (start turn₃) (two before₃) (omega (arith, four turn₃)) c.settle3.ensures (omega arith)
+  three : After turn₃ c.settle-in-loop-i-2.new.nets 3
+  three = next (start turn₃) (two before₃) (omega (arith, four turn₃)) c.settle-in-loop-i-2.ensures (omega arith)
 
-module _ (c : tie.After-settle4 invariant-loop decreases-loop) where
-  abbrev before₄ : tie.After-settle3 invariant-loop decreases-loop
+module _ (c : tie.After-settle-in-loop-i-3 invariant-loop-i decreases-loop-i) where
+  abbrev before₄ : tie.After-settle-in-loop-i-2 invariant-loop-i decreases-loop-i
   before₄ = c.before.before.before.before
 
-  abbrev turn₄ : tie.In-loop invariant-loop decreases-loop
+  abbrev turn₄ : tie.In-loop-i invariant-loop-i decreases-loop-i
   turn₄ = turn₃ before₄
 
-  all-four : After turn₄ c.settle4.new.1.1.1.1.0 4
-  all-four = next (start turn₄) (three before₄) (omega (arith, four turn₄)) c.settle4.ensures (omega arith)
+  all-four : After turn₄ c.settle-in-loop-i-3.new.nets 4
+  all-four = next (start turn₄) (three before₄) (omega (arith, four turn₄)) c.settle-in-loop-i-3.ensures (omega arith)
 
-settle-requires : tie.Need-settle-requires invariant-loop decreases-loop
-settle-requires c κs = let turn = c.before in asked (start turn) turn.before.loop.invariant.1 (omega (arith, four turn))
+settle-requires : tie.Need-settle-requires invariant-loop-i decreases-loop-i
+settle-requires c κs = let turn = c.before in asked (start turn) turn.before.loop-i.invariant.1 (omega (arith, four turn))
 
-settle-requires-2 : tie.Need-settle-requires-2 invariant-loop decreases-loop
+settle-requires-2 : tie.Need-settle-requires-in-loop-i invariant-loop-i decreases-loop-i
 settle-requires-2 c κs = let done = c.before.before.before in asked (start (turn₁ done)) (one done) (omega (arith, four (turn₁ done)))
 
-settle-requires-3 : tie.Need-settle-requires-3 invariant-loop decreases-loop
+settle-requires-3 : tie.Need-settle-requires-in-loop-i-2 invariant-loop-i decreases-loop-i
 settle-requires-3 c κs = let done = c.before.before.before in asked (start (turn₂ done)) (two done) (omega (arith, four (turn₂ done)))
 
-settle-requires-4 : tie.Need-settle-requires-4 invariant-loop decreases-loop
+settle-requires-4 : tie.Need-settle-requires-in-loop-i-3 invariant-loop-i decreases-loop-i
 settle-requires-4 c κs = let done = c.before.before.before in asked (start (turn₃ done)) (three done) (four (turn₃ done))
 
-loop-less : tie.Need-loop-smaller invariant-loop decreases-loop
+loop-less : tie.Need-loop-i-smaller invariant-loop-i decreases-loop-i
 loop-less c = let turn = turn₄ c.before.before in omega (arith, four turn)
 
-loop-again : tie.Need-loop-preserved invariant-loop decreases-loop
+loop-again : tie.Need-loop-i-preserved invariant-loop-i decreases-loop-i
 loop-again c = let done = c.before.before in (omega (arith, four (turn₄ done)), all-four done)
 
-pub settle-fours-spec : {M : Type 1} → statement M
-settle-fours-spec =
+pub settle_fours_spec : {M : Type 1} → statement M
+settle_fours_spec =
     tie.close
     (tie.spec
-    invariant-loop
-    decreases-loop
+    invariant-loop-i
+    decreases-loop-i
     loop-holds
     add-loop
     settle-requires
@@ -142,5 +142,5 @@ settle-fours-spec =
     (λ c. omega (arith, small (turn₄ c.before.before)))
     loop-less
     loop-again
-    (λ c. c.before.loop.invariant.1.size)
-    (λ c. c.before.loop.invariant))
+    (λ c. c.before.loop-i.invariant.1.size)
+    (λ c. c.before.loop-i.invariant))

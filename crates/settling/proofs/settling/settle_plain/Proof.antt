@@ -13,70 +13,70 @@ use Rattle.settling.proofs.Gatewise.{settle_next, settled_at_lem, settled_so_far
 use Rattle.settling.proofs.settling.settle_plain.Statement.{statement}
 use Rattle.settling.proofs.settling.settle_plain.Tie as tie
 
-abbrev invariant-loop : tie.invariant-loop
-invariant-loop image t from nets₀ n i₀ nets i = (i ≤ n) × Settled 4 image nets₀ nets i
+abbrev invariant-loop-i : tie.invariant-loop-i
+invariant-loop-i image t from nets₀ n i₀ nets i = (i ≤ n) × Settled 4 image nets₀ nets i
 
-abbrev decreases-loop : tie.decreases-loop
-decreases-loop image t from nets₀ n i₀ nets i = n - i
+abbrev decreases-loop-i : tie.decreases-loop-i
+decreases-loop-i image t from nets₀ n i₀ nets i = n - i
 
-checked : (c : tie.Start invariant-loop decreases-loop) → Checked c.args.image.now
+checked : (c : tie.Start invariant-loop-i decreases-loop-i) → Checked c.args.image.now
 checked c = (check_none _).0 c.requires.1.0.0
 
-sizes-of-requires : tie.Need-sizes-of-requires invariant-loop decreases-loop
+sizes-of-requires : tie.Need-sizes_of-z-requires invariant-loop-i decreases-loop-i
 sizes-of-requires c κs = omega (arith, (checked c.before.before.before).exact)
 
 -- N as it was read
-abbrev entry : tie.After-sizes-of invariant-loop decreases-loop → tie.Start invariant-loop decreases-loop
+abbrev entry : tie.After-sizes_of-z invariant-loop-i decreases-loop-i → tie.Start invariant-loop-i decreases-loop-i
 entry c = c.before.before.before.before
 
-nets-are : (c : tie.After-sizes-of invariant-loop decreases-loop) → c.sizes-of.result.nets ≡ (sizes_of (entry c).args.image.now).nets
-nets-are c = ap (λ (z : Sizes). z.nets) c.sizes-of.ensures
+nets-are : (c : tie.After-sizes_of-z invariant-loop-i decreases-loop-i) → c.sizes_of-z.result.nets ≡ (sizes_of (entry c).args.image.now).nets
+nets-are c = ap (λ (z : Sizes). z.nets) c.sizes_of-z.ensures
 
-settle-fours-requires : tie.Need-settle-fours-requires invariant-loop decreases-loop
+settle-fours-requires : tie.Need-settle_fours-i-requires invariant-loop-i decreases-loop-i
 settle-fours-requires c κs =
     let sized = c.before in
     let pre = (entry sized).requires in
     let e = nets-are sized in
     (pre.0, ((pre.1.0.0, e, pre.1.0.1, rw e pre.1.0.2), (rw e pre.1.1.0, pre.1.1.1)))
 
-loop-holds : tie.Need-loop-init invariant-loop decreases-loop
-loop-holds c = let w = c.before.before.settle-fours.ensures in (w.0, settled_so_far w.1)
+loop-holds : tie.Need-loop-i-init invariant-loop-i decreases-loop-i
+loop-holds c = let w = c.before.before.settle_fours-i.ensures in (w.0, settled_so_far w.1)
 
 -- what is settled when the loop has come to net i
-module _ (c : tie.At-loop invariant-loop decreases-loop) where
-  abbrev fours : tie.After-settle-fours invariant-loop decreases-loop
+module _ (c : tie.At-loop-i invariant-loop-i decreases-loop-i) where
+  abbrev fours : tie.After-settle_fours-i invariant-loop-i decreases-loop-i
   fours = c.before.before.before
 
-  abbrev sized : tie.After-sizes-of invariant-loop decreases-loop
+  abbrev sized : tie.After-sizes_of-z invariant-loop-i decreases-loop-i
   sized = fours.before.before
 
-  all : Settled 4 (entry sized).args.image.now (entry sized).args.nets.now c.loop.nets c.loop.i
-  all = settled_then fours.settle-fours.ensures.1 c.loop.invariant.1
+  all : Settled 4 (entry sized).args.image.now (entry sized).args.nets.now c.loop-i.nets c.loop-i.i
+  all = settled_then fours.settle_fours-i.ensures.1 c.loop-i.invariant.1
 
-  size : length c.loop.nets ≡ 40960
-  size = all.size ∙ (entry sized).pre.1.0.1
+  size : length c.loop-i.nets ≡ 40960
+  size = all.size ∙ (entry sized).requires.1.0.1
 
-settle-requires : tie.Need-settle-requires invariant-loop decreases-loop
+settle-requires : tie.Need-settle-requires invariant-loop-i decreases-loop-i
 settle-requires c κs =
     let turn = c.before in
     let at = turn.before in
-    let pre = (entry (sized at)).pre in
-    (pre.0, (pre.1.0.0, rw (← nets-are (sized at)) turn.loop-test.true, size at, (all at).both))
+    let pre = (entry (sized at)).requires in
+    (pre.0, (pre.1.0.0, rw (← nets-are (sized at)) turn.loop-i-test.true, size at, (all at).both))
 
-loop-again : tie.Need-loop-preserved invariant-loop decreases-loop
+loop-again : tie.Need-loop-i-preserved invariant-loop-i decreases-loop-i
 loop-again c =
     let settled = c.before.before in
     let turn = settled.before.before in
     let at = turn.before in
-    let below = turn.loop-test.true in
-    (omega arith, settle_next (checked (entry (sized at))) (rw (← nets-are (sized at)) below) (size at) at.loop.invariant.1 settled.settle.ensures (add-one at.loop.i))
+    let below = turn.loop-i-test.true in
+    (omega arith, settle_next (checked (entry (sized at))) (rw (← nets-are (sized at)) below) (size at) at.loop-i.invariant.1 settled.settle.ensures (add-one at.loop-i.i))
 
-pub settle-plain-spec : {M : Type 1} → statement M
-settle-plain-spec =
+pub settle_plain_spec : {M : Type 1} → statement M
+settle_plain_spec =
     tie.close
     (tie.spec
-    invariant-loop
-    decreases-loop
+    invariant-loop-i
+    decreases-loop-i
     sizes-of-requires
     settle-fours-requires
     loop-holds
@@ -85,4 +85,4 @@ settle-plain-spec =
     (λ c. search rules)
     loop-again
     (λ c. (all c.before).size)
-    (λ c. let at = c.before in settled_at_lem (omega (arith, at.loop.invariant.0, c.loop-test.false, nets-are (sized at))) (all at)))
+    (λ c. let at = c.before in settled_at_lem (omega (arith, at.loop-i.invariant.0, c.loop-i-test.false, nets-are (sized at))) (all at)))
