@@ -29,76 +29,63 @@ module _ (c : tie.Start) where
   found = c.requires.1.1.0.0
 
 -- the net bytes that were worked out are as many as before
-module _ (c : tie.After-work-out-listed) where
-  abbrev start : tie.Start
-  start = c.before.before.before.before.before.before.before.before.before.before.before.before
+module _ (c : tie.After-work_out_listed) where
 
-  size : length c.work-out-listed.new.1.1.1.1.1.1.1.1.0 ≡ 40960
-  size = c.work-out-listed.auto.1.1.1.1.1.1.1.1.0 ∙ start.pre.1.0.0
+  size : length c.work_out_listed.new.nets ≡ 40960
+  size = c.work_out_listed.auto.nets ∙ c.requires.1.0.0
 
-  enough : (sizes_of start.args.image.now).nets ≤ length c.work-out-listed.new.1.1.1.1.1.1.1.1.0
-  enough = omega (arith, size, (ready start).image.few_nets)
+  enough : (sizes_of c.args.image.now).nets ≤ length c.work_out_listed.new.nets
+  enough = omega (arith, size, (ready c.before.before.before.before.before.before.before.before.before.before.before).image.few_nets)
 
-first-listed-requires : tie.Need-first-listed-requires
+first-listed-requires : tie.Need-first_listed-first-requires
 first-listed-requires c κs =
-    let worked = c.before.before.before.before.before.before in
-    let begun = start worked in
-    let s = begun.args.image.now in
-    let below = protected_within s (places_fit (enough worked) (listed_places s refl OUT refl)).within in
-    rw (← begun.pre.1.1.0.1.are) at below
+    let s = c.args.image.now in
+    let below = protected_within s (places_fit (enough c.before.before.before.before) (listed_places s refl OUT refl)).within in
+    rw (← c.requires.1.1.0.1.are) at below
 
-take-bytes-requires : tie.Need-take-bytes-requires
+take-bytes-requires : tie.Need-take_bytes-requires
 take-bytes-requires c κs =
-    let worked = c.before.before.before.before.before.before.before.before.before in
-    let begun = start worked in
-    let s = begun.args.image.now in
-    let f = found begun in
-    (begun.pre.1.1.1.1 ∙ (ready begun).image.outputs ∙ sym (list_size s OUT f.outs), (places_fit (enough worked) (listed_places s refl OUT f.outs)).within)
+    let s = c.args.image.now in
+    let f = found c.before.before.before.before.before.before.before.before.before.before.before.before.before.before.before.before.before in
+    (c.requires.1.1.1.1 ∙ (ready c.before.before.before.before.before.before.before.before.before.before.before.before.before.before.before.before.before).image.outputs ∙ sym (list_size s OUT f.outs), (places_fit (enough c.before.before.before.before.before.before) (listed_places s refl OUT f.outs)).within)
 
-clock-listed-requires : tie.Need-clock-listed-requires
+clock-listed-requires : tie.Need-clock_listed-requires
 clock-listed-requires c κs =
-    let worked = c.before.before.before.before.before.before.before.before.before.before.before.before.before.before in
-    let begun = start worked in
-    let s = begun.args.image.now in
-    let f = found begun in
-    let r = ready begun in
-    (((check_none _).1 r.image, size worked), (f.regs, r.registers.size ∙ r.image.registers ∙ sym (list_size s REG f.regs)))
+    let s = c.args.image.now in
+    let f = found c.before.before.before.before.before.before.before.before.before.before.before.before.before.before.before.before.before.before.before.before.before in
+    let r = ready c.before.before.before.before.before.before.before.before.before.before.before.before.before.before.before.before.before.before.before.before.before in
+    (((check_none _).1 r.image, size c.before.before.before.before.before.before.before.before.before.before), (f.regs, r.registers.size ∙ r.image.registers ∙ sym (list_size s REG f.regs)))
 
 returns : tie.Need-returns
 unfolding cycle_of
 returns c =
-    let clocked = c.before.before in
-    let taken = clocked.before.before.before.before.before in
-    let judged = taken.before.before.before in
-    let worked = judged.before.before.before.before.before.before.before in
-    let begun = start worked in
-    let s = begun.args.image.now in
-    let f = found begun in
-    let nets = worked.work-out-listed.new.1.1.1.1.1.1.1.1.0 in
-    let done = worked.work-out-listed.ensures in
-    let image = (ready begun).image in
-    let earlier = begun.args.earlier in
-    let rule = rule_by begun.args.width in
-    let verdict = ap (λ l. first_marked l nets) begun.pre.1.1.0.1.are ∙ protected_verdict s nets ∙ verdict_off image nets ∙ ap (λ bs. verdict_from mark 0 (nets_of s) bs) done.0 in
-    let first = judged.first-listed.ensures ∙ ap (λ v. first_of earlier.cycle (verdict_in earlier.verdict) (first_of begun.args.c v (first_flow_in earlier))) verdict in
-    let outputs = taken.take-bytes.ensures ∙ ap (map (λ i. get_or nets i 0)) f.outs ∙ outputs_listed s refl nets ∙ outputs_off image nets ∙ ap (λ bs. outputs_from 0 (nets_of s) bs) done.0 in
-    let state = clocked.clock-listed.ensures ∙ pins_clocked image nets done.1.both f.regs ∙ clocked_off image nets rule ∙ ap (λ bs. cycle.clocked rule (nets_of s) bs) done.0 in
+    let s = c.args.image.now in
+    let f = found c.before.before.before.before.before.before.before.before.before.before.before.before.before.before.before.before.before.before.before.before.before.before.before.before in
+    let nets = c.work_out_listed.new.nets in
+    let done = c.work_out_listed.ensures in
+    let image = (ready c.before.before.before.before.before.before.before.before.before.before.before.before.before.before.before.before.before.before.before.before.before.before.before.before).image in
+    let earlier = c.args.earlier in
+    let rule = rule_by c.args.width in
+    let verdict = ap (λ l. first_marked l nets) c.requires.1.1.0.1.are ∙ protected_verdict s nets ∙ verdict_off image nets ∙ ap (λ bs. verdict_from mark 0 (nets_of s) bs) done.0 in
+    let first = c.first_listed-first.ensures ∙ ap (λ v. first_of earlier.cycle (verdict_in earlier.verdict) (first_of c.args.c v (first_flow_in earlier))) verdict in
+    let outputs = c.take_bytes.ensures ∙ ap (map (λ i. get_or nets i 0)) f.outs ∙ outputs_listed s refl nets ∙ outputs_off image nets ∙ ap (λ bs. outputs_from 0 (nets_of s) bs) done.0 in
+    let state = c.clock_listed.ensures ∙ pins_clocked image nets done.1.both f.regs ∙ clocked_off image nets rule ∙ ap (λ bs. cycle.clocked rule (nets_of s) bs) done.0 in
     (first, (outputs, (state, done.1)))
 
-pub cycle-spec : {M : Type 1} → statement M
-cycle-spec =
+pub cycle_spec : {M : Type 1} → statement M
+cycle_spec =
     tie.close
     (tie.spec
-    (λ c κs. let begun = c.before.before.before.before.before.before.before.before.before.before.before in (begun.requires.0, (begun.requires.1.0, (found begun, begun.requires.1.1.1.0))))
+    (λ c κs. (c.requires.0, (c.requires.1.0, (found c.before.before.before.before.before.before.before.before.before.before, c.requires.1.1.1.0))))
     (λ c. search rules)
     (λ c. search rules)
     (λ c. search rules)
     (λ c. search rules)
-    (λ c. let begun = start c.before.before.before in search (rules, begun.good.1.1.1.1.1.0, (found begun).in_order))
-    (λ c. let begun = start c.before.before.before in search (rules, begun.good.1.1.1.1.1.0, (found begun).in_order))
-    (λ c. let begun = start c.before.before.before in search (rules, begun.good.1.1.1.1.1.0, (found begun).in_order))
-    (λ c. let begun = start c.before.before.before in search (rules, begun.good.1.1.1.1.1.0, (found begun).in_order))
-    (λ c. let begun = start c.before.before.before.before.before in sym (length-take-le _ _ begun.pre.1.1.0.1.there))
+    (λ c. search (rules, c.well_formed.1.1.1.1.1.0, (found c.before.before.before.before.before.before.before.before.before.before.before.before.before.before).in_order))
+    (λ c. search (rules, c.well_formed.1.1.1.1.1.0, (found c.before.before.before.before.before.before.before.before.before.before.before.before.before.before).in_order))
+    (λ c. search (rules, c.well_formed.1.1.1.1.1.0, (found c.before.before.before.before.before.before.before.before.before.before.before.before.before.before).in_order))
+    (λ c. search (rules, c.well_formed.1.1.1.1.1.0, (found c.before.before.before.before.before.before.before.before.before.before.before.before.before.before).in_order))
+    (λ c. sym (length-take-le _ _ c.requires.1.1.0.1.there))
     first-listed-requires
     take-bytes-requires
     clock-listed-requires

@@ -29,14 +29,14 @@ module _ (c : tie.Start) where
   few : (sizes_of c.args.image.now).nets ≤ 8192
   few = ready.image.few_nets
 
-slice-aggregate-ins : tie.Need-slice-aggregate-ins
+slice-aggregate-ins : tie.Need-slice_bounds-ins-end
 slice-aggregate-ins c =
-    let order = (found c.before.before.before.before.before.before.before.before).in_order in
+    let order = (found c.before.before.before.before.before.before.before).in_order in
     sym (length-take-le _ _ (omega (arith, order.0, order.1, order.2)))
 
-put-bytes-requires : tie.Need-put-bytes-requires
+put-bytes-requires : tie.Need-put_bytes-requires
 put-bytes-requires c κs =
-    let start = c.before.before.before.before.before.before.before.before.before.before in
+    let start = c.before.before.before.before.before.before.before.before.before in
     let s = start.args.image.now in
     let f = found start in
     let r = ready start in (
@@ -45,46 +45,46 @@ put-bytes-requires c κs =
     )
 
 -- after the first
-module _ (c : tie.After-put-bytes) where
+module _ (c : tie.After-put_bytes) where
   abbrev start₁ : tie.Start
-  start₁ = c.before.before.before.before.before.before.before.before.before.before.before
+  start₁ = c.before.before.before.before.before.before.before.before.before.before
 
-  size₁ : length c.put-bytes.new.1.1.1.0 ≡ 40960
-  size₁ = c.put-bytes.ensures.size ∙ size start₁
+  size₁ : length c.put_bytes.new.nets ≡ 40960
+  size₁ = c.put_bytes.ensures.size ∙ size start₁
 
-put-bytes-requires-2 : tie.Need-put-bytes-requires-2
+put-bytes-requires-2 : tie.Need-put_bytes-requires-2
 put-bytes-requires-2 c κs =
     let first = c.before.before.before in
     let start = start₁ first in
     let s = start.args.image.now in
     let f = found start in
     let r = ready start in (
-      start.pre.1.0.1.state,
+      start.requires.1.0.1.state,
       (r.registers.size ∙ r.image.registers ∙ sym (list_size s REG f.regs), places_fit (few start) (listed_places s refl REG f.regs), size₁ first),
     )
 
 -- after the second
-module _ (c : tie.After-put-bytes2) where
-  abbrev first : tie.After-put-bytes
+module _ (c : tie.After-put_bytes-2) where
+  abbrev first : tie.After-put_bytes
   first = c.before.before.before.before
 
   abbrev start₂ : tie.Start
   start₂ = start₁ first
 
-  size₂ : length c.put-bytes2.new.1.1.1.0 ≡ 40960
-  size₂ = c.put-bytes2.ensures.size ∙ size₁ first
+  size₂ : length c.put_bytes-2.new.nets ≡ 40960
+  size₂ = c.put_bytes-2.ensures.size ∙ size₁ first
 
-  both₂ : Both start₂.args.width c.put-bytes2.new.1.1.1.0 (sizes_of start₂.args.image.now).nets
+  both₂ : Both start₂.args.width c.put_bytes-2.new.nets (sizes_of start₂.args.image.now).nets
   both₂ =
       let f = found start₂ in
-      put_both (ready start₂).image (size start₂) start₂.pre.1.1.1 f.ins f.regs first.put-bytes.ensures c.put-bytes2.ensures
+      put_both (ready start₂).image (size start₂) start₂.requires.1.1.1 f.ins f.regs first.put_bytes.ensures c.put_bytes-2.ensures
 
-settle-nets-requires : tie.Need-settle-nets-requires
+settle-nets-requires : tie.Need-settle_nets-requires
 settle-nets-requires c κs =
     let second = c.before.before.before in
     let start = start₂ second in
     let f = found start in
-    (start.pre.0, (((check_none _).1 (ready start).image, size₂ second, both₂ second), (f.from_upto, f.none_below)))
+    (start.requires.0, (((check_none _).1 (ready start).image, size₂ second, both₂ second), (f.from_upto, f.none_below)))
 
 returns : tie.Need-returns
 returns c =
@@ -93,15 +93,15 @@ returns c =
     let start = start₂ second in
     let f = found start in
     let r = ready start in
-    let ins = (first second).put-bytes.ensures in
-    let regs = second.put-bytes2.ensures in
-    let w = settled.settle-nets.ensures in (
-      settled_bytes r.image (size start) start.pre.1.1.1 f.ins f.regs ins regs w,
-      settled_prepared r.image (size start) start.pre.1.1.1 f.ins f.regs ins regs w,
+    let ins = (first second).put_bytes.ensures in
+    let regs = second.put_bytes-2.ensures in
+    let w = settled.settle_nets.ensures in (
+      settled_bytes r.image (size start) start.requires.1.1.1 f.ins f.regs ins regs w,
+      settled_prepared r.image (size start) start.requires.1.1.1 f.ins f.regs ins regs w,
     )
 
-pub work-out-listed-spec : {M : Type 1} → statement M
-work-out-listed-spec =
+pub work_out_listed_spec : {M : Type 1} → statement M
+work_out_listed_spec =
     tie.close
     (tie.spec
     slice-aggregate-ins
