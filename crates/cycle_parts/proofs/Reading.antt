@@ -81,6 +81,10 @@ module _ {s : List ℕ} {n : ℕ} {row state nets : List ℕ} {i inputs register
   code_at {p} (inl l) = asked.1.codes (pin_net p) l
   code_at {p} (inr e) = rw (e.1, one_net, asked.1.second (omega arith)) (lit< tt)
 
+  -- a pin whose operand was read as p
+  pub reads : {p q : ℕ} → p ≡ q → Read i q → p < 65536 → (p < 65536) × (pin_net p < length nets) × (get_or nets (pin_net p) 0 < 4)
+  reads e r l = (l, rw e (in_range r), rw e (code_at r))
+
   pin_at : {p : ℕ} → Read i p → pin_byte gate_byte (take i nets) p ≡ pin_byte gate_byte nets p
   pin_at {p} (inl l) = pin_same gate_byte (take i nets) nets p (get_or-take i nets (pin_net p) 0 l)
   pin_at {p} (inr e) =

@@ -2,7 +2,7 @@
 use Prim.Native.Nat.{ℕ, suc, ◌+◌, ◌≤◌, ◌<◌}
 use native.Mathlib.Numerals.{add-one}
 use native.Mathlib.Omega.{arith}
-use mathlib.Core.Path.{◌≡◌, sym, ◌∙◌}
+use mathlib.Core.Path.{◌≡◌, sym, ap, ◌∙◌}
 use mathlib.Core.List.Forall₂
 use mathlib.Core.List.{List}
 use mathlib.Core.Bool.{cond}
@@ -17,7 +17,7 @@ use Rattle.image.proofs.Pairs.{pairs_get_or}
 use Rattle.image.proofs.Nets.{nets_left, nets_next, nets_done, nets_left_lem}
 use Rattle.net_checking.proofs.Passes.{Passes, no_refusal}
 use Rattle.checking.proofs.Checked.{Checked, net_passes}
-use Rattle.cycle.specs.Cycle.{net_byte, past, walk, bytes_of}
+use Rattle.cycle.specs.Cycle.{Walk, net_byte, past, walk, bytes_of}
 use Rattle.cycle.proofs.Cycles.{WalkRelated, past_related, code_kept}
 use Rattle.cycle.proofs.Calls.{Ready}
 use Rattle.cycle_parts.specs.Readable.{walk_at, Readable}
@@ -90,7 +90,7 @@ module _ {s : List ℕ} {n : ℕ} {row state nets : List ℕ} {i inputs register
             count_is = w.count_is;
             upto = below;
             size = length-set nets i b ∙ w.size;
-            all = w.all ∙ rw (nets_next s n i below, add-one i, further);
+            all = w.all ∙ rw (nets_next s n i below, add-one i) (ap (λ (v : Walk). (walk gate_byte (nets_left s n (suc i)) v).bytes) further);
             codes = rw further at (past_related code_kept this_passes w.codes);
             of_inputs = omega (arith, this_count INPUT, w.of_inputs);
             of_registers = omega (arith, this_count REG, w.of_registers);

@@ -16,7 +16,7 @@ returns-2 c = rw c.in-2.is
 
 returns-3 : tie.Need-returns-in_default
 unfolding start_by start byte
-returns-3 c = rw (ne_eqb _ 1 c.in_default.rest.0.1, ne_eqb _ 2 c.in_default.rest.1)
+returns-3 c = rw (ne_eqb _ 1 c.in_default.in_default-own.rest.0.1, ne_eqb _ 2 c.in_default.in_default-own.rest.1)
 
 pub start_byte_spec : {M : Type 1} → statement M
 start_byte_spec = tie.close (tie.spec returns returns-2 returns-3)
