@@ -13,16 +13,15 @@ plain-lent : (inputs filled : ℕ) (rows buffer : List ℕ)
     → lent_refusal (alphabet_of (record { top = 3; in_rows = 13 })) inputs filled rows buffer ≡ lent_refusal plain_bytes inputs filled rows buffer
 plain-lent inputs filled rows buffer = rw (plain_bad 13 0 rows)
 
-returns : tie.Need-returns
-returns c = let known = c.before in rw (sym known.before.before.state-refusal.ensures ∙ ap refusal_in known.o.given.1)
+returns : tie.Need-returns-in-Refused
+returns c = rw (sym c.state_refusal-o.ensures ∙ ap refusal_in c.in-Refused.is)
 
-returns-2 : tie.Need-returns-2
+returns-2 : tie.Need-returns
 returns-2 c =
-    let told = c.before in
-    rw (sym told.before.before.state-refusal.ensures ∙ ap refusal_in told.enum_told.given.1) (c.lent-refusal-by.ensures ∙ plain-lent _ _ _ _)
+    rw (sym c.state_refusal-o.ensures ∙ ap refusal_in c.in_default.is) (c.lent_refusal_by.ensures ∙ plain-lent _ _ _ _)
 
-pub lent-refusal-spec : {M : Type 1} → statement M
-lent-refusal-spec =
+pub lent_refusal_spec : {M : Type 1} → statement M
+lent_refusal_spec =
     tie.close
     (tie.spec
     (λ c κs. search rules)

@@ -13,41 +13,36 @@ use Rattle.cycle.specs.Calls.{power_up_refusal}
 use Rattle.tracker.proofs.refusing.power_up_refusal.Statement.{statement}
 use Rattle.tracker.proofs.refusing.power_up_refusal.Tie as tie
 
-returns : tie.Need-returns
+returns : tie.Need-returns-in-Refused
 unfolding power_up_refusal
 returns c =
-    let known = c.before in
-    rw (sym known.before.before.check.ensures ∙ ap refusal_in known.o.given.1)
+    rw (sym c.check-o.ensures ∙ ap refusal_in c.in-Refused.is)
 
 -- past checking
-accepted : (c : tie.After-enum-told) → check_refusal c.before.before.before.before.before.args.image.now ≡ none
-accepted c = sym c.before.before.check.ensures ∙ ap refusal_in c.enum_told.given.1
+accepted : (c : tie.In_default) → check_refusal c.args.image.now ≡ none
+accepted c = sym c.check-o.ensures ∙ ap refusal_in c.in_default.is
 
-sizes-of-requires : tie.Need-sizes-of-requires
+sizes-of-requires : tie.Need-sizes_of-z-requires
 sizes-of-requires c κs = let image = (check_none _).0 (accepted c) in omega (arith, image.exact)
 
 -- R fits a u16
-few-registers : (c : tie.After-sizes-of) → c.sizes-of.result.registers < 65536
+few-registers : (c : tie.After-sizes_of-z) → c.sizes_of-z.result.registers < 65536
 few-registers c =
     let image = (check_none _).0 (accepted c.before) in
-    rw c.sizes-of.ensures (omega (arith, image.registers, few_of image REG))
+    rw c.sizes_of-z.ensures (omega (arith, image.registers, few_of image REG))
 
-returns-2 : tie.Need-returns-2
+returns-2 : tie.Need-returns-then-state-state_length
 unfolding power_up_refusal bad_length
 returns-2 c =
-    let long = c.before.before in
-    let sized = long.before in
-    rw (accepted sized.before, ← sized.sizes-of.ensures, ← long.state_length_lem.ensures, ne_eqb _ _ c.before.if1.true) c.refused.ensures
+    rw (accepted c.before.before.before.before, ← c.sizes_of-z.ensures, ← c.state_length.ensures, ne_eqb _ _ c.if-state-state_length.true) c.refused.ensures
 
-returns-3 : tie.Need-returns-3
+returns-3 : tie.Need-returns
 unfolding power_up_refusal bad_length
 returns-3 c =
-    let long = c.before in
-    let sized = long.before in
-    rw (accepted sized.before, ← sized.sizes-of.ensures, ← long.state_length_lem.ensures, eq-eqb _ _ c.if1.false)
+    rw (accepted c.before.before.before, ← c.sizes_of-z.ensures, ← c.state_length.ensures, eq-eqb _ _ c.if-state-state_length.false)
 
-pub power-up-refusal-spec : {M : Type 1} → statement M
-power-up-refusal-spec =
+pub power_up_refusal_spec : {M : Type 1} → statement M
+power_up_refusal_spec =
     tie.close
     (tie.spec
     (λ c κs. search rules)

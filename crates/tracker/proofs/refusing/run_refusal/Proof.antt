@@ -14,56 +14,52 @@ use Rattle.cycle.proofs.Runs.{product_fits}
 use Rattle.tracker.proofs.refusing.run_refusal.Statement.{statement}
 use Rattle.tracker.proofs.refusing.run_refusal.Tie as tie
 
-returns : tie.Need-returns
+returns : tie.Need-returns-in-Refused
 unfolding run_refusal
 returns c =
-    let known = c.before in
-    rw (sym known.before.before.check.ensures ∙ ap refusal_in known.o.given.1)
+    rw (sym c.check-o.ensures ∙ ap refusal_in c.in-Refused.is)
 
 -- past checking
-accepted : (c : tie.After-enum-told) → check_refusal c.before.before.before.before.before.before.before.args.image.now ≡ none
-accepted c = sym c.before.before.check.ensures ∙ ap refusal_in c.enum_told.given.1
+accepted : (c : tie.In_default) → check_refusal c.args.image.now ≡ none
+accepted c = sym c.check-o.ensures ∙ ap refusal_in c.in_default.is
 
 -- the number of cycles, as it was tested
-too_many : (c : tie.Then1) → 4096 < c.before.before.before.before.before.before.before.before.args.k
-too_many c = omega (arith, c.if1.true)
+too_many : (c : tie.Then-k-gt4096) → 4096 < c.args.k
+too_many c = omega (arith, c.if-k-gt4096.true)
 
-few : (c : tie.Else1) → c.before.before.before.before.before.before.before.before.args.k ≤ 4096
-few c = omega (arith, c.if1.false)
+few : (c : tie.Else-k-gt4096) → c.args.k ≤ 4096
+few c = omega (arith, c.if-k-gt4096.false)
 
-returns-2 : tie.Need-returns-2
+returns-2 : tie.Need-returns-then-k-gt4096
 unfolding run_refusal
 returns-2 c = rw (accepted c.before.before, lt-ltb 4096 _ (too_many c.before)) c.refused.ensures
 
-sizes-of-requires : tie.Need-sizes-of-requires
+sizes-of-requires : tie.Need-sizes_of-z-requires
 sizes-of-requires c κs = let image = (check_none _).0 (accepted c.before) in omega (arith, image.exact)
 
-mul-lent-refusal : tie.Need-overflow-mul-lent-refusal
+mul-lent-refusal : tie.Need-overflow_mul-k
 mul-lent-refusal c =
-    let sized = c.before in
-    let image = (check_none _).0 (accepted sized.before.before) in
-    rw sized.sizes-of.ensures (record { fits = product_fits (few sized.before) (omega (arith, image.inputs, few_of image INPUT)) })
+    let image = (check_none _).0 (accepted c.before.before.before) in
+    rw c.sizes_of-z.ensures (record { fits = product_fits (few c.before.before) (omega (arith, image.inputs, few_of image INPUT)) })
 
-mul-lent-refusal-2 : tie.Need-overflow-mul-lent-refusal-2
+mul-lent-refusal-2 : tie.Need-overflow_mul-k-2
 mul-lent-refusal-2 c =
-    let sized = c.before.before in
-    let image = (check_none _).0 (accepted sized.before.before) in
-    rw sized.sizes-of.ensures (record { fits = product_fits (few sized.before) (omega (arith, image.outputs, few_of image OUT)) })
+    let image = (check_none _).0 (accepted c.before.before.before.before) in
+    rw c.sizes_of-z.ensures (record { fits = product_fits (few c.before.before.before) (omega (arith, image.outputs, few_of image OUT)) })
 
 -- R fits a u16
-few-registers : (c : tie.After-sizes-of) → c.sizes-of.result.registers < 65536
+few-registers : (c : tie.After-sizes_of-z) → c.sizes_of-z.result.registers < 65536
 few-registers c =
     let image = (check_none _).0 (accepted c.before.before) in
-    rw c.sizes-of.ensures (omega (arith, image.registers, few_of image REG))
+    rw c.sizes_of-z.ensures (omega (arith, image.registers, few_of image REG))
 
-returns-3 : tie.Need-returns-3
+returns-3 : tie.Need-returns
 unfolding run_refusal
 returns-3 c =
-    let sized = c.before.before.before in
-    rw (accepted sized.before.before, le-ltb 4096 _ (few sized.before)) (rw sized.sizes-of.ensures at c.lent-refusal.ensures)
+    rw (accepted c.before.before.before.before.before, le-ltb 4096 _ (few c.before.before.before.before)) (rw c.sizes_of-z.ensures at c.lent_refusal.ensures)
 
-pub run-refusal-spec : {M : Type 1} → statement M
-run-refusal-spec =
+pub run_refusal_spec : {M : Type 1} → statement M
+run_refusal_spec =
     tie.close
     (tie.spec
     (λ c κs. search rules)

@@ -21,35 +21,34 @@ use Rattle.run_cycles.proofs.PlainRuns.{plain_taken, plain_run}
 use Rattle.tracker.proofs.running.run.Statement.{statement}
 use Rattle.tracker.proofs.running.run.Tie as tie
 
-returns : tie.Need-returns
+returns : tie.Need-returns-in-Refused
 returns c =
-    let known = c.before in
-    sym (run_refused _ _ _ _ _ _ (sym known.before.before.run-refusal.ensures ∙ ap refusal_in known.o.given.1))
+    sym (run_refused _ _ _ _ _ _ (sym c.run_refusal-o.ensures ∙ ap refusal_in c.in-Refused.is))
 
 -- no refusal was given
-not_refused : (c : tie.After-enum-told)
-    → let args = c.before.before.before.before.before.before.before.before.before.args in
+not_refused : (c : tie.In_default)
+    → let args = c.args in
     run_refusal args.image.now args.state.now args.k args.rows.now args.outputs.now ≡ none
-not_refused c = sym c.before.before.run-refusal.ensures ∙ ap refusal_in c.enum_told.given.1
+not_refused c = sym c.run_refusal-o.ensures ∙ ap refusal_in c.in_default.is
 
-lent : (c : tie.After-enum-told)
-    → let args = c.before.before.before.before.before.before.before.before.before.args in
+lent : (c : tie.In_default)
+    → let args = c.args in
     Lent args.image.now args.state.now (args.k * (sizes_of args.image.now).inputs) args.rows.now
 lent c = ((run_none _ _ _ _ _).0 (not_refused c)).0
 
-sizes-of-requires : tie.Need-sizes-of-requires
+sizes-of-requires : tie.Need-sizes_of-z-requires
 sizes-of-requires c κs = omega (arith, (lent c).image.exact)
 
 -- the registers that were read, which are as many as the image says, and the state with its two bytes behind them
-module _ (c : tie.After-sizes-of) where
+module _ (c : tie.After-sizes_of-z) where
   abbrev registers : ℕ
-  registers = c.sizes-of.result.registers
+  registers = c.sizes_of-z.result.registers
 
   abbrev state : List ℕ
-  state = c.before.before.before.before.before.before.before.before.before.before.args.state.now
+  state = c.args.state.now
 
-  registers_are : registers ≡ (sizes_of c.before.before.before.before.before.before.before.before.before.before.args.image.now).registers
-  registers_are = ap (λ (z : Sizes). z.registers) c.sizes-of.ensures
+  registers_are : registers ≡ (sizes_of c.args.image.now).registers
+  registers_are = ap (λ (z : Sizes). z.registers) c.sizes_of-z.ensures
 
   long : length state ≡ registers + 2
   long = state_size (lent c.before).state ∙ ap (λ r. r + 2) (sym registers_are)
@@ -60,44 +59,37 @@ module _ (c : tie.After-sizes-of) where
   few : registers < 65536
   few = let image = (lent c.before).image in omega (arith, registers_are, image.registers, few_of image REG)
 
-cycles-requires : tie.Need-cycles-requires
+cycles-requires : tie.Need-cycles-first-requires
 cycles-requires c κs =
-    let sized = c.before.before in
-    (inl refl, rw (registers_are sized) (plain_taken _ _ _ _ _ (not_refused sized.before)))
+    (inl refl, rw (registers_are c.before.before) (plain_taken _ _ _ _ _ (not_refused c.before.before.before)))
 
 -- the registers that the cycles left stand in front of the two bytes
-module _ (c : tie.After-cycles) where
-  abbrev sized : tie.After-sizes-of
-  sized = c.before.before.before
+module _ (c : tie.After-cycles-first) where
 
   abbrev left : List ℕ
-  left = c.cycles.new.1.1.1.0
+  left = c.cycles-first.new.state
 
-  left-size : length left ≡ registers sized
-  left-size = c.cycles.auto.1.1.1.0 ∙ front sized
+  left-size : length left ≡ registers c.before.before.before
+  left-size = c.cycles-first.auto.state ∙ front c.before.before.before
 
-  left-long : length (left ++ drop (registers sized) (state sized)) ≡ registers sized + 2
-  left-long = let l = left-size in let s = long sized in simp (length-append, length-drop) (omega arith)
+  left-long : length (left ++ drop (registers c.before.before.before) (state c.before.before.before)) ≡ registers c.before.before.before + 2
+  left-long = let l = left-size in let s = long c.before.before.before in simp (length-append, length-drop) (omega arith)
 
-  left-front : take (registers sized) (left ++ drop (registers sized) (state sized)) ≡ left
+  left-front : take (registers c.before.before.before) (left ++ drop (registers c.before.before.before) (state c.before.before.before)) ≡ left
   left-front = take_at left _ _ left-size
 
-count-marked-requires : tie.Need-count-marked-requires
+count-marked-requires : tie.Need-count_marked-marked-requires
 count-marked-requires c κs =
-    let ran = c.before.before.before.before.before in
-    rw (left-front ran) (omega (arith, left-size ran, few (sized ran)))
+    rw (left-front c.before.before.before.before) (omega (arith, left-size c.before.before.before.before, few c.before.before.before.before.before.before.before))
 
-put-u16-requires : tie.Need-put-u16-requires
-put-u16-requires c κs = (omega (arith, left-long c.before.before.before.before.before.before.before), omega arith)
+put-u16-requires : tie.Need-put_u16-requires
+put-u16-requires c κs = (omega (arith, left-long c.before.before.before.before.before.before), omega arith)
 
-returns-2 : tie.Need-returns-2
+returns-2 : tie.Need-returns
 unfolding counting
 returns-2 c =
-    let put = c.before.before in
-    let counted = put.before.before in
-    let ran = counted.before.before.before.before.before.before in
-    rw (put.put-u16.ensures, put_count (left ran) _ (left-size ran) (long (sized ran)) (counted.count-marked.ensures ∙ ap marked_count (left-front ran)))
-    (ap counting ran.cycles.ensures ∙ rw (registers_are (sized ran)) (plain_run _ _ _ _ _ (not_refused (sized ran).before)))
+    rw (c.put_u16.ensures, put_count (left c.before.before.before.before.before.before.before.before.before) _ (left-size c.before.before.before.before.before.before.before.before.before) (long c.before.before.before.before.before.before.before.before.before.before.before.before) (c.count_marked-marked.ensures ∙ ap marked_count (left-front c.before.before.before.before.before.before.before.before.before)))
+    (ap counting c.cycles-first.ensures ∙ rw (registers_are c.before.before.before.before.before.before.before.before.before.before.before.before) (plain_run _ _ _ _ _ (not_refused c.before.before.before.before.before.before.before.before.before.before.before.before.before)))
 
 pub run_spec : {M : Type 1} → statement M
 run_spec =
@@ -114,7 +106,7 @@ run_spec =
     (λ c. sym (front c.before))
     cycles-requires
     (λ c. omega (arith, left-long c.before.before.before.before))
-    (λ c. let ran = c.before.before.before.before.before in rw (left-front ran) (sym (left-size ran)))
+    (λ c. rw (left-front c.before.before.before.before) (sym (left-size c.before.before.before.before)))
     count-marked-requires
     (λ c. search rules)
     put-u16-requires

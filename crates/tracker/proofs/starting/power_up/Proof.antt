@@ -18,57 +18,51 @@ use Rattle.cycle_parts.proofs.Starts.{plain_starts}
 use Rattle.tracker.proofs.starting.power_up.Statement.{statement}
 use Rattle.tracker.proofs.starting.power_up.Tie as tie
 
-returns : tie.Need-returns
+returns : tie.Need-returns-in-Refused
 returns c =
-    let known = c.before in
-    sym (power_up_refused _ _ _ (sym known.before.before.power_up_refusal_lem.ensures ∙ ap refusal_in known.o.given.1))
+    sym (power_up_refused _ _ _ (sym c.power_up_refusal-o.ensures ∙ ap refusal_in c.in-Refused.is))
 
 -- past the refusals
-accepted : (c : tie.After-enum-told) → let args = c.before.before.before.before.before.before.args in power_up_refusal args.image.now args.state.now ≡ none
-accepted c = sym c.before.before.power_up_refusal_lem.ensures ∙ ap refusal_in c.enum_told.given.1
+accepted : (c : tie.In_default) → let args = c.args in power_up_refusal args.image.now args.state.now ≡ none
+accepted c = sym c.power_up_refusal-o.ensures ∙ ap refusal_in c.in_default.is
 
-sizes-of-requires : tie.Need-sizes-of-requires
+sizes-of-requires : tie.Need-sizes_of-z-requires
 sizes-of-requires c κs = let image = ((power_up_none _ _).0 (accepted c)).0 in omega (arith, image.exact)
 
 -- the registers that were read, which are as many as the image says, and the state with its two bytes behind them
-module _ (c : tie.After-sizes-of) where
-  registers_are : c.sizes-of.result.registers ≡ (sizes_of c.before.before.before.before.before.before.before.args.image.now).registers
-  registers_are = ap (λ (z : Sizes). z.registers) c.sizes-of.ensures
+module _ (c : tie.After-sizes_of-z) where
+  registers_are : c.sizes_of-z.result.registers ≡ (sizes_of c.args.image.now).registers
+  registers_are = ap (λ (z : Sizes). z.registers) c.sizes_of-z.ensures
 
-  long : length c.before.before.before.before.before.before.before.args.state.now ≡ c.sizes-of.result.registers + 2
+  long : length c.args.state.now ≡ c.sizes_of-z.result.registers + 2
   long = rw registers_are ((power_up_none _ _).0 (accepted c.before)).1
 
-  front : length (take c.sizes-of.result.registers c.before.before.before.before.before.before.before.args.state.now) ≡ c.sizes-of.result.registers
+  front : length (take c.sizes_of-z.result.registers c.args.state.now) ≡ c.sizes_of-z.result.registers
   front = length-take-le _ _ (omega (arith, long))
 
-take-starts-requires : tie.Need-take-starts-requires
+take-starts-requires : tie.Need-take_starts-marked-requires
 take-starts-requires c κs =
-    let sized = c.before in
-    let ready = (power_up_none _ _).0 (accepted sized.before) in
-    ((check_none _).1 ready.0, (ap (λ (z : Sizes). z.nets) sized.sizes-of.ensures, front sized ∙ registers_are sized))
+    let ready = (power_up_none _ _).0 (accepted c.before.before) in
+    ((check_none _).1 ready.0, (ap (λ (z : Sizes). z.nets) c.sizes_of-z.ensures, front c.before ∙ registers_are c.before))
 
 -- the starts are as many as the registers
-starts-size : (c : tie.After-take-starts) → length c.take-starts.new.1.1.1.0 ≡ c.before.before.sizes-of.result.registers
-starts-size c = c.take-starts.auto.1.1.1.0 ∙ front c.before.before
+starts-size : (c : tie.After-take_starts-marked) → length c.take_starts-marked.new.state ≡ c.sizes_of-z.result.registers
+starts-size c = c.take_starts-marked.auto.state ∙ front c.before.before
 
-put-u16-requires : tie.Need-put-u16-requires
+put-u16-requires : tie.Need-put_u16-requires
 put-u16-requires c κs =
-    let started = c.before.before.before in
-    let size = long started.before.before in
-    let l = starts-size started in
+    let size = long c.before.before.before.before.before in
+    let l = starts-size c.before.before.before in
     (simp (length-append, length-drop) (omega arith), omega arith)
 
-returns-2 : tie.Need-returns-2
+returns-2 : tie.Need-returns
 returns-2 c =
-    let put = c.before.before in
-    let started = put.before.before.before.before in
-    let sized = started.before.before in
-    let e = started.take-starts.ensures in
-    rw (put.put-u16.ensures, put_count _ _ (starts-size started) (long sized) (e.1 ∙ ap marked_count (sym e.0)), e.0, plain_starts)
-    (sym (power_up_accepted _ _ (accepted sized.before)))
+    let e = c.take_starts-marked.ensures in
+    rw (c.put_u16.ensures, put_count _ _ (starts-size c.before.before.before.before.before.before) (long c.before.before.before.before.before.before.before.before) (e.1 ∙ ap marked_count (sym e.0)), e.0, plain_starts)
+    (sym (power_up_accepted _ _ (accepted c.before.before.before.before.before.before.before.before.before)))
 
-pub power-up-spec : {M : Type 1} → statement M
-power-up-spec =
+pub power_up_spec : {M : Type 1} → statement M
+power_up_spec =
     tie.close
     (tie.spec
     (λ c κs. search rules)

@@ -21,44 +21,43 @@ use Rattle.cycle.proofs.Calls.{Ready, Lent, lent_ready, worked_low, step_accepte
 use Rattle.tracker.proofs.stepping.step.Statement.{statement}
 use Rattle.tracker.proofs.stepping.step.Tie as tie
 
-returns : tie.Need-returns
+returns : tie.Need-returns-in-Refused
 returns c =
-    let known = c.before in
-    sym (step_refused _ _ _ _ _ (sym known.before.before.step-refusal.ensures ∙ ap refusal_in known.o.given.1))
+    sym (step_refused _ _ _ _ _ (sym c.step_refusal-o.ensures ∙ ap refusal_in c.in-Refused.is))
 
 -- past the refusals
-accepted : (c : tie.After-enum-told)
-    → let args = c.before.before.before.before.before.before.before.before.before.args in
+accepted : (c : tie.In_default)
+    → let args = c.args in
     step_refusal args.image.now args.state.now args.row.now args.nets.now ≡ none
-accepted c = sym c.before.before.step-refusal.ensures ∙ ap refusal_in c.enum_told.given.1
+accepted c = sym c.step_refusal-o.ensures ∙ ap refusal_in c.in_default.is
 
-lent : (c : tie.After-enum-told)
-    → let args = c.before.before.before.before.before.before.before.before.before.args in
+lent : (c : tie.In_default)
+    → let args = c.args in
     Lent args.image.now args.state.now (sizes_of args.image.now).inputs args.row.now
 lent c = ((step_none _ _ _ _).0 (accepted c)).0
 
-sizes-of-requires : tie.Need-sizes-of-requires
+sizes-of-requires : tie.Need-sizes_of-z-requires
 sizes-of-requires c κs = omega (arith, (lent c).image.exact)
 
 -- the sizes that were read, and the state with its two bytes behind the registers
-module _ (c : tie.After-sizes-of) where
+module _ (c : tie.After-sizes_of-z) where
   abbrev image : List ℕ
-  image = c.before.before.before.before.before.before.before.before.before.before.args.image.now
+  image = c.args.image.now
 
   abbrev state : List ℕ
-  state = c.before.before.before.before.before.before.before.before.before.before.args.state.now
+  state = c.args.state.now
 
   abbrev row : List ℕ
-  row = c.before.before.before.before.before.before.before.before.before.before.args.row.now
+  row = c.args.row.now
 
   abbrev registers : ℕ
-  registers = c.sizes-of.result.registers
+  registers = c.sizes_of-z.result.registers
 
-  nets-are : c.sizes-of.result.nets ≡ (sizes_of image).nets
-  nets-are = ap (λ (z : Sizes). z.nets) c.sizes-of.ensures
+  nets-are : c.sizes_of-z.result.nets ≡ (sizes_of image).nets
+  nets-are = ap (λ (z : Sizes). z.nets) c.sizes_of-z.ensures
 
   registers_are : registers ≡ (sizes_of image).registers
-  registers_are = ap (λ (z : Sizes). z.registers) c.sizes-of.ensures
+  registers_are = ap (λ (z : Sizes). z.registers) c.sizes_of-z.ensures
 
   long : length state ≡ registers + 2
   long = state_size (lent c.before).state ∙ ap (λ r. r + 2) (sym registers_are)
@@ -69,61 +68,50 @@ module _ (c : tie.After-sizes-of) where
   ready : Ready image (take registers state) (sizes_of image).inputs row
   ready = subst (λ r. Ready image (take r state) (sizes_of image).inputs row) (sym registers_are) (lent_ready (lent c.before))
 
-work-out-requires : tie.Need-work-out-requires
+work-out-requires : tie.Need-work_out-requires
 work-out-requires c κs =
-    let sized = c.before.before.before.before in
-    let r = ready sized in (
-      (c.before.before.before.table.ensures, (check_none _).1 r.image, nets-are sized),
+    let r = ready c.before.before.before in (
+      (c.table-t.ensures, (check_none _).1 r.image, nets-are c.before.before.before),
       (
-        (r.size, r.registers.size, ((step_none _ _ _ _).0 (accepted sized.before)).1 ∙ sym (nets-are sized)),
+        (r.size, r.registers.size, ((step_none _ _ _ _).0 (accepted c.before.before.before.before)).1 ∙ sym (nets-are c.before.before.before)),
         (low_codes r.codes, low_codes r.registers.codes),
       ),
     )
 
 -- the net bytes that were worked out are as many as before, and 0 to 3
-module _ (c : tie.After-work-out) where
-  abbrev sized : tie.After-sizes-of
-  sized = c.before.before.before.before.before
+module _ (c : tie.After-work_out) where
 
-  nets-size : length c.work-out.new.1.1.1.1.1.0 ≡ sized.sizes-of.result.nets
-  nets-size = c.work-out.auto.1.1.1.1.1.0 ∙ ((step_none _ _ _ _).0 (accepted sized.before)).1 ∙ sym (nets-are sized)
+  nets-size : length c.work_out.new.nets ≡ c.sizes_of-z.result.nets
+  nets-size = c.work_out.auto.nets ∙ ((step_none _ _ _ _).0 (accepted c.before.before.before.before.before)).1 ∙ sym (nets-are c.before.before.before.before)
 
-  nets-low : Low c.work-out.new.1.1.1.1.1.0
-  nets-low = rw c.work-out.ensures (worked_low (ready sized))
+  nets-low : Low c.work_out.new.nets
+  nets-low = rw c.work_out.ensures (worked_low (ready c.before.before.before.before))
 
-verdict-of-requires : tie.Need-verdict-of-requires
+verdict-of-requires : tie.Need-verdict_of-verdict-requires
 verdict-of-requires c κs =
-    let worked = c.before.before.before in
-    ((check_none _).1 (ready (sized worked)).image, (nets-are (sized worked), nets-size worked))
+    ((check_none _).1 (ready c.before.before.before.before.before.before).image, (nets-are c.before.before.before.before.before.before, nets-size c.before.before))
 
-clock-requires : tie.Need-clock-requires
+clock-requires : tie.Need-clock-marked-requires
 clock-requires c κs =
-    let worked = c.before.before.before.before.before.before in
-    let r = ready (sized worked) in
-    ((check_none _).1 r.image, (nets-are (sized worked), nets-size worked, r.registers.size, nets-low worked))
+    let r = ready c.before.before.before.before.before.before.before.before in
+    ((check_none _).1 r.image, (nets-are c.before.before.before.before.before.before.before.before, nets-size c.before.before.before.before, r.registers.size, nets-low c.before.before.before.before))
 
 -- the registers that were clocked are as many as before
-clocked-size : (c : tie.After-clock) → length c.clock.new.1.1.1.0 ≡ registers (sized c.before.before.before.before.before.before.before)
-clocked-size c = c.clock.auto.1.1.1.0 ∙ front (sized c.before.before.before.before.before.before.before)
+clocked-size : (c : tie.After-clock-marked) → length c.clock-marked.new.state ≡ registers c.before.before.before.before.before.before.before.before.before
+clocked-size c = c.clock-marked.auto.state ∙ front c.before.before.before.before.before.before.before.before.before
 
-put-u16-requires : tie.Need-put-u16-requires
+put-u16-requires : tie.Need-put_u16-requires
 put-u16-requires c κs =
-    let clocked = c.before.before.before in
-    let size = long (sized clocked.before.before.before.before.before.before.before) in
-    let l = clocked-size clocked in
+    let size = long c.before.before.before.before.before.before.before.before.before.before.before.before in
+    let l = clocked-size c.before.before.before in
     (simp (length-append, length-drop) (omega arith), omega arith)
 
-returns-2 : tie.Need-returns-2
+returns-2 : tie.Need-returns
 unfolding cycle_of as_step
 returns-2 c =
-    let put = c.before.before in
-    let clocked = put.before.before.before.before in
-    let judged = clocked.before.before.before in
-    let worked = judged.before.before.before.before in
-    let read = sized worked in
-    let e = clocked.clock.ensures in
-    rw (put.put-u16.ensures, put_count _ _ (clocked-size clocked) (long read) (e.1 ∙ ap marked_count (sym e.0)), e.0, judged.verdict-of.ensures, worked.work-out.ensures)
-    (ap (λ r. as_step (cycle_of plain (nets_of (image read)) (row read) (take r (state read)))) (registers_are read) ∙ sym (step_accepted _ _ _ _ (accepted read.before)))
+    let e = c.clock-marked.ensures in
+    rw (c.put_u16.ensures, put_count _ _ (clocked-size c.before.before.before.before.before.before) (long c.before.before.before.before.before.before.before.before.before.before.before.before.before.before.before) (e.1 ∙ ap marked_count (sym e.0)), e.0, c.verdict_of-verdict.ensures, c.work_out.ensures)
+    (ap (λ r. as_step (cycle_of plain (nets_of (image c.before.before.before.before.before.before.before.before.before.before.before.before.before.before.before)) (row c.before.before.before.before.before.before.before.before.before.before.before.before.before.before.before) (take r (state c.before.before.before.before.before.before.before.before.before.before.before.before.before.before.before)))) (registers_are c.before.before.before.before.before.before.before.before.before.before.before.before.before.before.before) ∙ sym (step_accepted _ _ _ _ (accepted c.before.before.before.before.before.before.before.before.before.before.before.before.before.before.before.before)))
 
 pub step_spec : {M : Type 1} → statement M
 step_spec =
@@ -138,11 +126,11 @@ step_spec =
     sizes-of-requires
     (λ c κs. search rules)
     (λ c. omega (arith, long c.before.before))
-    (λ c. sym (front c.before.before.before))
+    (λ c. sym (front c.before.before))
     work-out-requires
     verdict-of-requires
-    (λ c. omega (arith, long (sized c.before.before.before.before.before)))
-    (λ c. sym (front (sized c.before.before.before.before.before.before)))
+    (λ c. omega (arith, long c.before.before.before.before.before.before.before))
+    (λ c. sym (front c.before.before.before.before.before.before.before.before))
     clock-requires
     (λ c. search rules)
     put-u16-requires
