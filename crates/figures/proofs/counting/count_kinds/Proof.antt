@@ -11,7 +11,7 @@ use Rattle.image.proofs.Encoding.{nothing}
 use Rattle.checking.proofs.Checked.{Checked, check_none}
 use Rattle.groups.specs.Groups.{group_length}
 use Rattle.doubled.proofs.Sums.{kind_small}
-use Rattle.figures.proofs.Rows.{row, row_ends}
+use Rattle.figures.proofs.Rows.{row_ends}
 use Rattle.figures.proofs.Raising.{counts_to, counts_begin, counts_all, counts_next, counts_room}
 use Rattle.figures.proofs.counting.count_kinds.Statement.{statement}
 use Rattle.figures.proofs.counting.count_kinds.Tie as tie
