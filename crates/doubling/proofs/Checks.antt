@@ -32,15 +32,33 @@ data Counted : ℕ → Type 0 where
 
 group_count : {k n i : ℕ} {x : Net} (v : ℕ) (val mrk : ℕ → ℕ) → Counted k → Passes n i x → count k (group_of v x val mrk) ≡ 2 * cond (eqb x.kind k) 1 0
 unfolding group_of count
-group_count v val mrk c (is_const h) = elim c [ c_in ↦ refl | c_reg ↦ refl | c_out ↦ refl ]
-group_count v val mrk c is_input = elim c [ c_in ↦ refl | c_reg ↦ refl | c_out ↦ refl ]
-group_count v val mrk c (is_reg h k) = elim c [ c_in ↦ refl | c_reg ↦ refl | c_out ↦ refl ]
-group_count v val mrk c (is_not h) = elim c [ c_in ↦ refl | c_reg ↦ refl | c_out ↦ refl ]
-group_count v val mrk c (is_and h k) = elim c [ c_in ↦ refl | c_reg ↦ refl | c_out ↦ refl ]
-group_count v val mrk c (is_or h k) = elim c [ c_in ↦ refl | c_reg ↦ refl | c_out ↦ refl ]
-group_count v val mrk c (is_xor h k) = elim c [ c_in ↦ refl | c_reg ↦ refl | c_out ↦ refl ]
-group_count v val mrk c (is_mux h k l) = elim c [ c_in ↦ refl | c_reg ↦ refl | c_out ↦ refl ]
-group_count v val mrk c (is_out h k) = elim c [ c_in ↦ refl | c_reg ↦ refl | c_out ↦ refl ]
+group_count v val mrk c_in (is_const h) = refl
+group_count v val mrk c_reg (is_const h) = refl
+group_count v val mrk c_out (is_const h) = refl
+group_count v val mrk c_in is_input = refl
+group_count v val mrk c_reg is_input = refl
+group_count v val mrk c_out is_input = refl
+group_count v val mrk c_in (is_reg h k) = refl
+group_count v val mrk c_reg (is_reg h k) = refl
+group_count v val mrk c_out (is_reg h k) = refl
+group_count v val mrk c_in (is_not h) = refl
+group_count v val mrk c_reg (is_not h) = refl
+group_count v val mrk c_out (is_not h) = refl
+group_count v val mrk c_in (is_and h k) = refl
+group_count v val mrk c_reg (is_and h k) = refl
+group_count v val mrk c_out (is_and h k) = refl
+group_count v val mrk c_in (is_or h k) = refl
+group_count v val mrk c_reg (is_or h k) = refl
+group_count v val mrk c_out (is_or h k) = refl
+group_count v val mrk c_in (is_xor h k) = refl
+group_count v val mrk c_reg (is_xor h k) = refl
+group_count v val mrk c_out (is_xor h k) = refl
+group_count v val mrk c_in (is_mux h k l) = refl
+group_count v val mrk c_reg (is_mux h k l) = refl
+group_count v val mrk c_out (is_mux h k l) = refl
+group_count v val mrk c_in (is_out h k) = refl
+group_count v val mrk c_reg (is_out h k) = refl
+group_count v val mrk c_out (is_out h k) = refl
 
 count_append : (k : ℕ) (xs ys : List Net) → count k (xs ++ ys) ≡ count k xs + count k ys
 unfolding count

@@ -1,1 +1,3 @@
+#![tactic(auto)]
+
 // The group of nets that each net becomes: definitions and laws, and no code.

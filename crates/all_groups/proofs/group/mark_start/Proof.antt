@@ -4,13 +4,13 @@ use Rattle.groups.specs.Groups.{mark_start}
 use Rattle.all_groups.proofs.group.mark_start.Statement.{statement}
 use Rattle.all_groups.proofs.group.mark_start.Tie as tie
 
-returns : tie.Need-returns
+returns : tie.Need-returns-then-b-eq2
 unfolding mark_start
-returns c = rw c.if1.true
+returns c = rw c.if-b-eq2.true
 
-returns-2 : tie.Need-returns-2
+returns-2 : tie.Need-returns-else-b-eq2
 unfolding mark_start
-returns-2 c = rw (ne_eqb _ 2 c.if1.false)
+returns-2 c = rw (ne_eqb _ 2 c.if-b-eq2.false)
 
-pub mark-start-spec : {M : Type 1} → statement M
-mark-start-spec = tie.close (tie.spec returns returns-2)
+pub mark_start_spec : {M : Type 1} → statement M
+mark_start_spec = tie.close (tie.spec returns returns-2)

@@ -8,5 +8,5 @@ returns : tie.Need-returns
 unfolding group_lengths
 returns c = refl
 
-pub group-lengths-spec : {M : Type 1} → statement M
-group-lengths-spec = tie.close (tie.spec returns)
+pub group_lengths_spec : {M : Type 1} → statement M
+group_lengths_spec = tie.close (tie.spec returns)

@@ -14,103 +14,92 @@ use Rattle.doubled.proofs.Sums.{Summed, start_zero, summed_begins, summed_next, 
 use Rattle.doubled.proofs.lengths.starts_of.Statement.{statement}
 use Rattle.doubled.proofs.lengths.starts_of.Tie as tie
 
-abbrev invariant-loop : tie.invariant-loop
-invariant-loop image n lengths starts₀ size₀ i₀ starts size i =
+abbrev invariant-loop-i : tie.invariant-loop-i
+invariant-loop-i image n lengths starts₀ size₀ i₀ starts size i =
     (i ≤ n) × (length starts ≡ 8193) × (size ≡ value_net (nets_of image) i) × Summed starts (nets_of image) i
 
-abbrev decreases-loop : tie.decreases-loop
-decreases-loop image n lengths starts₀ size₀ i₀ starts size i = n - i
+abbrev decreases-loop-i : tie.decreases-loop-i
+decreases-loop-i image n lengths starts₀ size₀ i₀ starts size i = n - i
 
-abbrev invariant-loop2 : tie.invariant-loop2
-invariant-loop2 image n starts₀ size i₀ starts i =
+abbrev invariant-loop-i-2 : tie.invariant-loop-i-2
+invariant-loop-i-2 image n starts₀ size i₀ starts i =
     (n ≤ i) × (i ≤ 8192) × (length starts ≡ 8193) × (size ≡ doubled_size (nets_of image)) × Summed starts (nets_of image) i
 
-abbrev decreases-loop2 : tie.decreases-loop2
-decreases-loop2 image n starts₀ size i₀ starts i = 8192 - i
+abbrev decreases-loop-i-2 : tie.decreases-loop-i-2
+decreases-loop-i-2 image n starts₀ size i₀ starts i = 8192 - i
 
-checked : (c : tie.Start invariant-loop decreases-loop invariant-loop2 decreases-loop2) → Checked c.args.image.now
+checked : (c : tie.Start invariant-loop-i decreases-loop-i invariant-loop-i-2 decreases-loop-i-2) → Checked c.args.image.now
 checked c = (check_none _).0 c.requires.0
 
-loop-holds : tie.Need-loop-init invariant-loop decreases-loop invariant-loop2 decreases-loop2
-loop-holds c = let xs = nets_of c.before.before.args.image.now in (omega arith, refl, sym (start_zero xs), summed_begins xs)
+loop-holds : tie.Need-loop-i-init invariant-loop-i decreases-loop-i invariant-loop-i-2 decreases-loop-i-2
+loop-holds c = let xs = nets_of c.args.image.now in (omega arith, refl, sym (start_zero xs), summed_begins xs)
 
 -- net i: its kind, and the length of its group
-kind-of-requires : tie.Need-kind-of-requires invariant-loop decreases-loop invariant-loop2 decreases-loop2
+kind-of-requires : tie.Need-kind_of-kind-requires invariant-loop-i decreases-loop-i invariant-loop-i-2 decreases-loop-i-2
 kind-of-requires c κs =
-    let begin = c.before.before.before.before in
-    omega (arith, (checked begin).exact, begin.requires.1, c.loop-test.true)
+    omega (arith, (checked c.before.before.before.before).exact, c.requires.1, c.loop-i-test.true)
 
-kind : (c : tie.After-kind-of invariant-loop decreases-loop invariant-loop2 decreases-loop2) → c.kind-of.result < 9
+kind : (c : tie.After-kind_of-kind invariant-loop-i decreases-loop-i invariant-loop-i-2 decreases-loop-i-2) → c.kind_of-kind.result < 9
 kind c =
-    let at = c.before.before in
-    let begin = at.before.before.before in
-    rw c.kind-of.ensures (kind_small (checked begin) at.loop.i begin.requires.1 c.before.loop-test.true)
+    rw c.kind_of-kind.ensures (kind_small (checked c.before.before.before.before.before) c.loop-i.i c.requires.1 c.loop-i-test.true)
 
-next : (c : tie.After-kind-of invariant-loop decreases-loop invariant-loop2 decreases-loop2)
-    → let at = c.before.before in
-    at.loop.size + get_or at.before.group-lengths.result c.kind-of.result 0 ≡ value_net (nets_of at.before.before.before.args.image.now) (at.loop.i + 1)
+next : (c : tie.After-kind_of-kind invariant-loop-i decreases-loop-i invariant-loop-i-2 decreases-loop-i-2)
+    → c.loop-i.size + get_or c.group_lengths-lengths.result c.kind_of-kind.result 0 ≡ value_net (nets_of c.args.image.now) (c.loop-i.i + 1)
 unfolding group_length
 next c =
-    let at = c.before.before in
-    let begin = at.before.before.before in
-    rw (at.loop.invariant.2, at.before.group-lengths.ensures, c.kind-of.ensures) (sym (next_start (checked begin) at.loop.i begin.requires.1 c.before.loop-test.true))
+    rw (c.loop-i.invariant.2, c.group_lengths-lengths.ensures, c.kind_of-kind.ensures) (sym (next_start (checked c.before.before.before.before.before) c.loop-i.i c.requires.1 c.loop-i-test.true))
 
-room : (c : tie.After-kind-of invariant-loop decreases-loop invariant-loop2 decreases-loop2) → c.before.before.loop.i + 1 < 8193
-room c = let begin = c.before.before.before.before.before in omega (arith, c.before.loop-test.true, begin.requires.1, (checked begin).few_nets)
+room : (c : tie.After-kind_of-kind invariant-loop-i decreases-loop-i invariant-loop-i-2 decreases-loop-i-2) → c.loop-i.i + 1 < 8193
+room c = omega (arith, c.loop-i-test.true, c.requires.1, (checked c.before.before.before.before.before).few_nets)
 
-add-size : tie.Need-overflow-add-size invariant-loop decreases-loop invariant-loop2 decreases-loop2
-add-size c = let at = c.before.before in omega (arith, next c, starts_fit (checked at.before.before.before) (at.loop.i + 1))
+add-size : tie.Need-overflow_add-size invariant-loop-i decreases-loop-i invariant-loop-i-2 decreases-loop-i-2
+add-size c = omega (arith, next c, starts_fit (checked c.before.before.before.before.before) (c.loop-i.i + 1))
 
-loop-again : tie.Need-loop-preserved invariant-loop decreases-loop invariant-loop2 decreases-loop2
+loop-again : tie.Need-loop-i-preserved invariant-loop-i decreases-loop-i invariant-loop-i-2 decreases-loop-i-2
 loop-again c =
-    let at = c.before.before in
-    let inv = at.loop.invariant in
-    let xs = nets_of at.before.before.before.args.image.now in
-    let size = at.loop.size + get_or at.before.group-lengths.result c.kind-of.result 0 in (
-      omega (arith, c.before.loop-test.true),
-      length-set at.loop.starts (at.loop.i + 1) size ∙ inv.1,
+    let inv = c.loop-i.invariant in
+    let xs = nets_of c.args.image.now in
+    let size = c.loop-i.size + get_or c.group_lengths-lengths.result c.kind_of-kind.result 0 in (
+      omega (arith, c.loop-i-test.true),
+      length-set c.loop-i.starts (c.loop-i.i + 1) size ∙ inv.1,
       next c,
-      summed_next at.loop.starts xs at.loop.i size inv.3 (omega (arith, inv.1, room c)) (next c),
+      summed_next c.loop-i.starts xs c.loop-i.i size inv.3 (omega (arith, inv.1, room c)) (next c),
     )
 
-loop2-holds : tie.Need-loop2-init invariant-loop decreases-loop invariant-loop2 decreases-loop2
+loop2-holds : tie.Need-loop-i-2-init invariant-loop-i decreases-loop-i invariant-loop-i-2 decreases-loop-i-2
 loop2-holds c =
-    let at = c.before in
-    let begin = at.before.before.before in
-    let n = begin.requires.1 in
-    let xs = nets_of begin.args.image.now in
-    let long = length_nets begin.args.image.now in
-    let few = (checked begin).few_nets in
-    let inv = at.loop.invariant in
-    (omega (arith, c.loop-test.false), omega (arith, inv.0, n, few), inv.1, inv.2 ∙ value_end xs at.loop.i (omega (arith, c.loop-test.false, n, long)), inv.3)
+    let n = c.requires.1 in
+    let xs = nets_of c.args.image.now in
+    let long = length_nets c.args.image.now in
+    let few = (checked c.before.before.before.before).few_nets in
+    let inv = c.loop-i.invariant in
+    (omega (arith, c.loop-i-test.false), omega (arith, inv.0, n, few), inv.1, inv.2 ∙ value_end xs c.loop-i.i (omega (arith, c.loop-i-test.false, n, long)), inv.3)
 
-loop2-again : tie.Need-loop2-preserved invariant-loop decreases-loop invariant-loop2 decreases-loop2
+loop2-again : tie.Need-loop-i-2-preserved invariant-loop-i decreases-loop-i invariant-loop-i-2 decreases-loop-i-2
 loop2-again c =
-    let at = c.before in
-    let begin = at.before.before.before.before.before in
-    let size = at.before.before.loop.size in
-    let inv = at.loop2.invariant in
-    let xs = nets_of begin.args.image.now in
-    let long = length_nets begin.args.image.now in
-    let end : size ≡ value_net xs (at.loop2.i + 1) = inv.3 ∙ sym (value_end xs (at.loop2.i + 1) (omega (arith, inv.0, long, begin.requires.1))) in (
+    let size = c.loop-i.size in
+    let inv = c.loop-i-2.invariant in
+    let xs = nets_of c.args.image.now in
+    let long = length_nets c.args.image.now in
+    let end : size ≡ value_net xs (c.loop-i-2.i + 1) = inv.3 ∙ sym (value_end xs (c.loop-i-2.i + 1) (omega (arith, inv.0, long, c.requires.1))) in (
       omega (arith, inv.0),
-      omega (arith, c.loop2-test.true),
-      length-set at.loop2.starts (at.loop2.i + 1) size ∙ inv.2,
+      omega (arith, c.loop-i-2-test.true),
+      length-set c.loop-i-2.starts (c.loop-i-2.i + 1) size ∙ inv.2,
       inv.3,
-      summed_next at.loop2.starts xs at.loop2.i size inv.4 (omega (arith, c.loop2-test.true, inv.2)) end,
+      summed_next c.loop-i-2.starts xs c.loop-i-2.i size inv.4 (omega (arith, c.loop-i-2-test.true, inv.2)) end,
     )
 
-returns : tie.Need-returns invariant-loop decreases-loop invariant-loop2 decreases-loop2
-returns c = λ j h. c.before.loop2.invariant.4 j (omega (arith, c.loop2-test.false))
+returns : tie.Need-returns invariant-loop-i decreases-loop-i invariant-loop-i-2 decreases-loop-i-2
+returns c = λ j h. c.loop-i-2.invariant.4 j (omega (arith, c.loop-i-2-test.false))
 
-pub starts-of-spec : {M : Type 1} → statement M
-starts-of-spec =
+pub starts_of_spec : {M : Type 1} → statement M
+starts_of_spec =
     tie.close
     (tie.spec
-    invariant-loop
-    decreases-loop
-    invariant-loop2
-    decreases-loop2
+    invariant-loop-i
+    decreases-loop-i
+    invariant-loop-i-2
+    decreases-loop-i-2
     (λ c κs. search rules)
     loop-holds
     kind-of-requires

@@ -19,103 +19,89 @@ use Rattle.doubling.proofs.Checks.{double_none, double_refused, double_passed, d
 use Rattle.doubling.proofs.doubling.double.Statement.{statement}
 use Rattle.doubling.proofs.doubling.double.Tie as tie
 
-returns : tie.Need-returns
+returns : tie.Need-returns-in-Refused
 unfolding double_refusal
 returns c =
-    let known = c.before in
-    let begin = known.before.before.before.before.before in
-    let refusal = sym known.before.before.check.ensures ∙ ap refusal_in known.o.given.1 in
-    sym (double_refused begin.args.image.now begin.args.buffer.now _ (rw refusal))
+    let refusal = sym c.check-o.ensures ∙ ap refusal_in c.in-Refused.is in
+    sym (double_refused c.args.image.now c.args.buffer.now _ (rw refusal))
 
 -- past checking
-accepted : (c : tie.After-enum-told) → check_refusal c.before.before.before.before.before.args.image.now ≡ none
-accepted c = sym c.before.before.check.ensures ∙ ap refusal_in c.enum_told.given.1
+accepted : (c : tie.In_default) → check_refusal c.args.image.now ≡ none
+accepted c = sym c.check-o.ensures ∙ ap refusal_in c.in_default.is
 
-checked : (c : tie.After-enum-told) → Checked c.before.before.before.before.before.args.image.now
+checked : (c : tie.In_default) → Checked c.args.image.now
 checked c = (check_none _).0 (accepted c)
 
-sizes-of-requires : tie.Need-sizes-of-requires
+sizes-of-requires : tie.Need-sizes_of-z-requires
 sizes-of-requires c κs = omega (arith, (checked c).exact)
 
-starts-of-requires : tie.Need-starts-of-requires
-starts-of-requires c κs = (accepted c.before, ap (λ (z : Sizes). z.nets) c.sizes-of.ensures)
+starts-of-requires : tie.Need-starts_of-starts-requires
+starts-of-requires c κs = (accepted c.before, ap (λ (z : Sizes). z.nets) c.sizes_of-z.ensures)
 
 -- the number of nets, and the doubled size behind the last start
-few : (c : tie.After-sizes-of) → c.sizes-of.result.nets ≤ 8192
-few c = rw c.sizes-of.ensures (checked c.before).few_nets
+few : (c : tie.After-sizes_of-z) → c.sizes_of-z.result.nets ≤ 8192
+few c = rw c.sizes_of-z.ensures (checked c.before).few_nets
 
-size_is : (c : tie.After-starts-of)
-    → get_or c.starts-of.result c.before.sizes-of.result.nets 0
-    ≡ doubled_size (nets_of c.before.before.before.before.before.before.before.args.image.now)
+size_is : (c : tie.After-starts_of-starts)
+    → get_or c.starts_of-starts.result c.sizes_of-z.result.nets 0
+    ≡ doubled_size (nets_of c.args.image.now)
 size_is c =
-    let s = c.before.before.before.before.before.before.before.args.image.now in
-    let n = ap (λ (z : Sizes). z.nets) c.before.sizes-of.ensures in
-    c.starts-of.ensures c.before.sizes-of.result.nets (few c.before) ∙ value_end (nets_of s) _ (omega (arith, n, length_nets s))
+    let s = c.args.image.now in
+    let n = ap (λ (z : Sizes). z.nets) c.sizes_of-z.ensures in
+    c.starts_of-starts.ensures c.sizes_of-z.result.nets (few c.before) ∙ value_end (nets_of s) _ (omega (arith, n, length_nets s))
 
-cast-size : tie.Need-overflow-cast-size
+cast-size : tie.Need-overflow_cast-size
 cast-size c =
-    let n = c.before.sizes-of.result.nets in
-    omega (arith, c.starts-of.ensures n (few c.before), starts_fit (checked c.before.before) n)
+    let n = c.sizes_of-z.result.nets in
+    omega (arith, c.starts_of-starts.ensures n (few c.before), starts_fit (checked c.before.before) n)
 
 -- the chain of refusals, past checking
-chain : (c : tie.After-room-refusal)
-    → let args = c.before.before.before.before.before.before.before.before.args in
-    double_refusal args.image.now args.buffer.now ≡ refusal_in c.room-refusal.result
+chain : (c : tie.After-room_refusal-p)
+    → let args = c.args in
+    double_refusal args.image.now args.buffer.now ≡ refusal_in c.room_refusal-p.result
 unfolding double_refusal bad_length
-chain c = rw (accepted c.before.before.before, ← size_is c.before) (sym c.room-refusal.ensures)
+chain c = rw (accepted c.before.before.before, ← size_is c.before) (sym c.room_refusal-p.ensures)
 
-returns-2 : tie.Need-returns-2
+returns-2 : tie.Need-returns-in-Refused-p
 returns-2 c =
-    let known = c.before in
-    let room = known.before.before in
-    let args = room.before.before.before.before.before.before.before.before.args in
-    sym (double_refused args.image.now args.buffer.now _ (chain room ∙ ap refusal_in known.p.given.1))
+    let args = c.args in
+    sym (double_refused args.image.now args.buffer.now _ (chain c.before ∙ ap refusal_in c.in-Refused-p.is))
 
 -- past all refusals
-passed : (c : tie.After-enum-told2)
-    → let args = c.before.before.before.before.before.before.before.before.before.before.args in
+passed : (c : tie.In_default-p)
+    → let args = c.args in
     double_refusal args.image.now args.buffer.now ≡ none
-passed c = chain c.before.before ∙ ap refusal_in c.enum-told2.given.1
+passed c = chain c.before ∙ ap refusal_in c.in_default-p.is
 
-write-image-requires : tie.Need-write-image-requires
+write-image-requires : tie.Need-write_image-requires
 write-image-requires c κs =
-    let told = c.before.before in
-    let starts = told.before.before.before in
-    let size = size_is starts in
-    let ready = (double_none _ _).0 (passed told) in (
-      accepted starts.before.before,
+    let size = size_is c.before.before.before.before in
+    let ready = (double_none _ _).0 (passed c.before.before) in (
+      accepted c.before.before.before.before.before.before,
       (
-        (starts.before.sizes-of.ensures, starts.starts-of.ensures),
+        (c.sizes_of-z.ensures, c.starts_of-starts.ensures),
         (size, omega (arith, size, ready.1), omega (arith, size, ready.2)),
       ),
     )
 
 -- what was written is checked again
-recheck : (c : tie.After-check2)
-    → let write = c.before.before.before.before in
-    let started = write.before.before.before.before.before.before in
-    let args = started.before.before.before.before.before.before.before.args in
-    refusal_in c.check2.result ≡ check_refusal (doubled_image args.image.now)
-recheck c = c.check2.ensures ∙ ap check_refusal c.before.before.before.before.write-image.ensures
+recheck : (c : tie.After-check-q)
+    → let args = c.args in
+    refusal_in c.check-q.result ≡ check_refusal (doubled_image args.image.now)
+recheck c = c.check-q.ensures ∙ ap check_refusal c.write_image.ensures
 
-returns-3 : tie.Need-returns-3
+returns-3 : tie.Need-returns-in-Refused-q
 returns-3 c =
-    let cleared = c.before.before.before in
-    let told = cleared.before.before in
-    let check = told.before.before in
-    let write = check.before.before.before.before in
-    let failed = double_failed _ _ (passed write.before.before.before) _ (sym (recheck check) ∙ ap refusal_in told.enum-told3.given.1) in
-    rw (c.refused.ensures, cleared.set-to-0.ensures, write.write-image.auto.0) (sym failed)
+    let failed = double_failed _ _ (passed c.before.before.before.before.before.before.before.before.before.before.before.before) _ (sym (recheck c.before.before.before.before.before.before) ∙ ap refusal_in c.in-Refused-q.is) in
+    rw (c.refused.ensures, c.set_to_0.ensures, c.write_image.auto.d) (sym failed)
 
-returns-4 : tie.Need-returns-4
+returns-4 : tie.Need-returns
 returns-4 c =
-    let check = c.before.before in
-    let write = check.before.before.before.before in
-    rw write.write-image.ensures
-    (sym (double_passed _ _ (passed write.before.before.before) (sym (recheck check) ∙ ap refusal_in c.enum-told4.given.1)))
+    rw c.write_image.ensures
+    (sym (double_passed _ _ (passed c.before.before.before.before.before.before.before) (sym (recheck c.before) ∙ ap refusal_in c.in_default-q.is)))
 
-pub double-spec : {M : Type 1} → statement M
-double-spec =
+pub double_spec : {M : Type 1} → statement M
+double_spec =
     tie.close
     (tie.spec
     (λ c κs. search rules)

@@ -6,29 +6,29 @@ use borrow.Author.Tests.{eq-eqb, ne_eqb, lt-ltb, le-ltb}
 use Rattle.doubling.proofs.doubling.room_refusal.Statement.{statement}
 use Rattle.doubling.proofs.doubling.room_refusal.Tie as tie
 
-returns : tie.Need-returns
+returns : tie.Need-returns-then-size-gt8192
 returns c =
     let args = c.before.before.args in
-    rw (lt-ltb 8192 args.size (omega (arith, c.before.if1.true))) c.refused.ensures
+    rw (lt-ltb 8192 args.size (omega (arith, c.before.if-size-gt8192.true))) c.refused.ensures
 
-returns-2 : tie.Need-returns-2
+returns-2 : tie.Need-returns-then-length-size
 returns-2 c =
     let first = c.before.before in
     let args = first.before.args in
     rw (
-      le-ltb 8192 args.size (omega (arith, first.if1.false)),
-      ne_eqb args.length (8 + 7 * args.size) (λ e. omega (arith, e, c.before.if2.true)),
+      le-ltb 8192 args.size (omega (arith, first.if-size-gt8192.false)),
+      ne_eqb args.length (8 + 7 * args.size) (λ e. omega (arith, e, c.before.if-length-size.true)),
     )
-    c.refused2.ensures
+    c.refused-then-length-size.ensures
 
-returns-3 : tie.Need-returns-3
+returns-3 : tie.Need-returns
 returns-3 c =
     let first = c.before in
     let args = first.before.args in
-    rw (le-ltb 8192 args.size (omega (arith, first.if1.false)), eq-eqb args.length (8 + 7 * args.size) (omega (arith, c.if2.false)))
+    rw (le-ltb 8192 args.size (omega (arith, first.if-size-gt8192.false)), eq-eqb args.length (8 + 7 * args.size) (omega (arith, c.if-length-size.false)))
 
-pub room-refusal-spec : {M : Type 1} → statement M
-room-refusal-spec =
+pub room_refusal_spec : {M : Type 1} → statement M
+room_refusal_spec =
     tie.close
     (tie.spec
     (λ c κs. search rules)

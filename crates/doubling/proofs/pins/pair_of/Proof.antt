@@ -25,47 +25,45 @@ module _ (p : ℕ) {i s : ℕ} (starts : List ℕ) (i-is : i ≡ pin_net p) wher
   end-some e h = rw (e, i-is) h
 
 -- after the net is known, and after its start is
-module _ (c : tie.After-pin-net) where
-  small : c.pin-net.result < 8192
-  small = omega (arith, c.pin-net.ensures, c.before.requires.0.1)
+module _ (c : tie.After-pin_net-i) where
+  small : c.pin_net-i.result < 8192
+  small = omega (arith, c.pin_net-i.ensures, c.requires.0.1)
 
-  upto : c.pin-net.result ≤ c.before.args.p
-  upto = omega (arith, c.pin-net.ensures, net_most c.before.args.p)
+  upto : c.pin_net-i.result ≤ c.args.p
+  upto = omega (arith, c.pin_net-i.ensures, net_most c.args.p)
 
 first : (c : tie.After-wide) → c.wide.result ≤ 8192
-first c = let named = c.before.before in start-few named.before.args.p named.before.args.starts.now named.pin-net.ensures c.wide.ensures.0 named.before.requires.1.0
+first c = start-few c.args.p c.args.starts.now c.pin_net-i.ensures c.wide.ensures.0 c.requires.1.0
 
-second : (c : tie.After-wide2) → 0 < c.wide2.result
-second c = let named = c.before.before.before.before in end-some named.before.args.p named.before.args.starts.now named.pin-net.ensures c.wide2.ensures.0 named.before.requires.1.1
+second : (c : tie.After-wide-2) → 0 < c.wide-2.result
+second c = end-some c.args.p c.args.starts.now c.pin_net-i.ensures c.wide-2.ensures.0 c.requires.1.1
 
 returns : tie.Need-returns
 returns c =
-    let start = c.before.before in
-    let named = start.before.before in
-    let starts = named.before.args.starts.now in
-    let p = named.before.args.p in
-    let value = value_is p starts named.pin-net.ensures start.wide.ensures.0 in (
+    let starts = c.args.starts.now in
+    let p = c.args.p in
+    let value = value_is p starts c.pin_net-i.ensures c.wide.ensures.0 in (
       value,
-      mark_is p starts named.pin-net.ensures c.wide2.ensures.0,
+      mark_is p starts c.pin_net-i.ensures c.wide-2.ensures.0,
       record {
-        value = omega (arith, value, like_most p (get_or starts (pin_net p) 0), named.before.requires.1.0);
-        mark = omega (arith, c.wide2.ensures.1);
+        value = omega (arith, value, like_most p (get_or starts (pin_net p) 0), c.requires.1.0);
+        mark = omega (arith, c.wide-2.ensures.1);
       },
     )
 
-pub pair-of-spec : {M : Type 1} → statement M
-pair-of-spec =
+pub pair_of_spec : {M : Type 1} → statement M
+pair_of_spec =
     tie.close
     (tie.spec
     (λ c κs. c.requires.0.0)
     (λ c. omega (arith, upto c))
     (λ c. omega (arith, small c))
-    (λ c. omega (arith, small c))
+    (λ c. omega (arith, small c.before))
     (λ c κs. search rules)
-    (λ c. let named = c.before.before in omega (arith, first c, named.before.requires.0.0))
-    (λ c. omega (arith, small c.before.before))
-    (λ c. omega (arith, small c.before.before))
-    (λ c. omega (arith, small c.before.before))
+    (λ c. omega (arith, first c, c.requires.0.0))
+    (λ c. omega (arith, small c.before.before.before))
+    (λ c. omega (arith, small c.before.before.before))
+    (λ c. omega (arith, small c.before.before.before))
     (λ c κs. search rules)
     (λ c. omega (arith, second c))
     returns)

@@ -43,63 +43,52 @@ module _ (c : tie.Start) (p : ℕ) (named : pin_net p < 8192) where
   pair = pins_are c.args.starts.now xs c.requires.1.0.1 p named
 
 -- the group's first net
-own : (c : tie.After-wide) → let begin = c.before.before.before.before in c.wide.result ≡ value_net (nets_of begin.args.image.now) begin.args.i
-own c = let begin = c.before.before.before.before in c.wide.ensures.0 ∙ begin.requires.1.0.1 begin.args.i (omega (arith, few begin))
+own : (c : tie.After-wide-v) → c.wide-v.result ≡ value_net (nets_of c.args.image.now) c.args.i
+own c = c.wide-v.ensures.0 ∙ c.requires.1.0.1 c.args.i (omega (arith, few c.before.before.before.before.before))
 
 -- the net passes
 passes : (c : tie.Start) → let s = c.args.image.now in Passes (sizes_of s).nets c.args.i (net_at s (sizes_of s).nets c.args.i)
 passes c = net_passes (checked c) refl c.args.i c.requires.1.0.0
 
 -- so its operands name nets below 8,192, pins or not
-small : (c : tie.After-net-of) → Small c.net-of.result
+small : (c : tie.After-net_of-x) → Small c.net_of-x.result
 small c =
-    let begin = c.before.before.before.before.before in
-    rw c.net-of.ensures.0 (operands_small (checked begin).few_nets (few begin) (passes begin))
+    rw c.net_of-x.ensures.0 (operands_small (checked c.before.before.before.before.before.before).few_nets (few c.before.before.before.before.before.before) (passes c.before.before.before.before.before.before))
 
-put-group-requires : tie.Need-put-group-requires
+put-group-requires : tie.Need-put_group-requires
 unfolding net_at
 put-group-requires c κs =
-    let second = c.before in
-    let first = second.before in
-    let read = first.before.before in
-    let begin = read.before.before.before.before.before in
-    let x = read.net-of.ensures.0 in (
-      (rw x (kind_most (passes begin)), rw (own read.before, x) begin.requires.1.1),
-      (read.net-of.ensures.1, first.pair_of.ensures.2, second.pair-of2.ensures.2, c.pair-of3.ensures.2),
+    let x = c.net_of-x.ensures.0 in (
+      (rw x (kind_most (passes c.before.before.before.before.before.before.before.before.before.before)), rw (own c.before.before.before.before.before, x) c.requires.1.1),
+      (c.net_of-x.ensures.1, c.pair_of.ensures.2, c.pair_of-2.ensures.2, c.pair_of-3.ensures.2),
     )
 
 returns : tie.Need-returns
 returns c =
-    let put = c.before.before in
-    let third = put.before in
-    let second = third.before in
-    let first = second.before in
-    let read = first.before.before in
-    let begin = read.before.before.before.before.before in
-    let args = begin.args in
-    let x = read.net-of.result in
-    let a = pair begin x.a (small read).a in
-    let b = pair begin x.b (small read).b in
-    let k = pair begin x.c (small read).c in
+    let args = c.args in
+    let x = c.net_of-x.result in
+    let a = pair c.before.before.before.before.before.before.before.before.before.before.before.before.before x.a (small c.before.before.before.before.before.before.before).a in
+    let b = pair c.before.before.before.before.before.before.before.before.before.before.before.before.before x.b (small c.before.before.before.before.before.before.before).b in
+    let k = pair c.before.before.before.before.before.before.before.before.before.before.before.before.before x.c (small c.before.before.before.before.before.before.before).c in
     let group =
-    group_pinned (nets_of args.image.now) args.i x (own read.before)
-    (first.pair_of.ensures.0 ∙ a.0) (first.pair_of.ensures.1 ∙ a.1)
-    (second.pair-of2.ensures.0 ∙ b.0) (second.pair-of2.ensures.1 ∙ b.1)
-    (third.pair-of3.ensures.0 ∙ k.0) (third.pair-of3.ensures.1 ∙ k.1) in
-    rw read.net-of.ensures.0 at
-    (put.put-group.ensures ∙ ap₂ (λ (v : ℕ) (l : List Net). put_nets args.d.now args.size v l) (own read.before) group)
+    group_pinned (nets_of args.image.now) args.i x (own c.before.before.before.before.before.before.before.before)
+    (c.pair_of.ensures.0 ∙ a.0) (c.pair_of.ensures.1 ∙ a.1)
+    (c.pair_of-2.ensures.0 ∙ b.0) (c.pair_of-2.ensures.1 ∙ b.1)
+    (c.pair_of-3.ensures.0 ∙ k.0) (c.pair_of-3.ensures.1 ∙ k.1) in
+    rw c.net_of-x.ensures.0 at
+    (c.put_group.ensures ∙ ap₂ (λ (v : ℕ) (l : List Net). put_nets args.d.now args.size v l) (own c.before.before.before.before.before.before.before.before) group)
 
-pub put-group-at-spec : {M : Type 1} → statement M
-put-group-at-spec =
+pub put_group_at_spec : {M : Type 1} → statement M
+put_group_at_spec =
     tie.close
     (tie.spec
     (λ c. omega (arith, few c.before.before))
-    (λ c. omega (arith, few c.before.before))
+    (λ c. omega (arith, few c.before.before.before))
     (λ c κs. search rules)
-    (λ c κs. let begin = c.before.before.before.before in (begin.requires.1.0.0, (checked begin).exact))
-    (λ c κs. asked c.before.before.before.before.before.before _ (small c.before).a)
-    (λ c κs. asked c.before.before.before.before.before.before.before _ (small c.before.before).b)
-    (λ c κs. asked c.before.before.before.before.before.before.before.before _ (small c.before.before.before).c)
+    (λ c κs. (c.requires.1.0.0, (checked c.before.before.before.before.before).exact))
+    (λ c κs. asked c.before.before.before.before.before.before.before _ (small c.before).a)
+    (λ c κs. asked c.before.before.before.before.before.before.before.before _ (small c.before.before).b)
+    (λ c κs. asked c.before.before.before.before.before.before.before.before.before _ (small c.before.before.before).c)
     put-group-requires
     (λ c. search rules)
     returns)

@@ -23,33 +23,27 @@ counts c =
       omega (arith, k.outputs, few_of k OUT),
     )
 
-put-sizes-requires : tie.Need-put-sizes-requires
+put-sizes-requires : tie.Need-put_sizes-requires
 put-sizes-requires c κs =
-    let begin = c.before.before.before.before.before.before in
-    let most = counts begin in
-    let size = begin.requires.1.1 in
+    let most = counts c.before.before.before.before.before.before in
+    let size = c.requires.1.1 in
     (omega (arith, size.2), (omega (arith, size.1), omega (arith, most.0), omega (arith, most.1), omega (arith, most.2)))
 
-put-groups-requires : tie.Need-put-groups-requires
+put-groups-requires : tie.Need-put_groups-requires
 put-groups-requires c κs =
-    let sized = c.before.before.before in
-    let begin = sized.before.before.before.before.before.before.before in
-    let size = begin.requires.1.1 in
-    (begin.requires.0, ((ap (λ (z : Sizes). z.nets) begin.requires.1.0.0, begin.requires.1.0.1), (size.0, size.1, sized.put-sizes.auto.0 ∙ size.2)))
+    let size = c.requires.1.1 in
+    (c.requires.0, ((ap (λ (z : Sizes). z.nets) c.requires.1.0.0, c.requires.1.0.1), (size.0, size.1, c.put_sizes.auto.d ∙ size.2)))
 
 returns : tie.Need-returns
 returns c =
-    let done = c.before.before in
-    let sized = done.before.before.before.before in
-    let begin = sized.before.before.before.before.before.before.before in
-    let args = begin.args in
-    let size = begin.requires.1.1 in
-    let sizes = rw (size.0, begin.requires.1.0.0) at sized.put-sizes.ensures in
-    let nets = rw (size.0, sizes) at done.put-groups.ensures in
+    let args = c.args in
+    let size = c.requires.1.1 in
+    let sizes = rw (size.0, c.requires.1.0.0) at c.put_sizes.ensures in
+    let nets = rw (size.0, sizes) at c.put_groups.ensures in
     nets ∙ image_laid args.image.now args.d.now (rw size.0 at size.2)
 
-pub write-image-spec : {M : Type 1} → statement M
-write-image-spec =
+pub write_image_spec : {M : Type 1} → statement M
+write_image_spec =
     tie.close
     (tie.spec
     (λ c. omega (arith, (counts c.before.before.before.before).0))

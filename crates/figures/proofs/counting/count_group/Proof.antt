@@ -41,78 +41,65 @@ module _ {whole : List ℕ} {end j : ℕ} {counts : List ℕ} (t : Turn whole en
   unfolding raised_by
   done h = rw (places_none group_kinds j end h) at t.left
 
-abbrev invariant-loop : tie.invariant-loop
-invariant-loop counts₀ kinds first end j₀ counts j = Turn (raised_by counts₀ (places group_kinds first end)) end j counts
+abbrev invariant-loop-j : tie.invariant-loop-j
+invariant-loop-j counts₀ kinds first end j₀ counts j = Turn (raised_by counts₀ (places group_kinds first end)) end j counts
 
-abbrev decreases-loop : tie.decreases-loop
-decreases-loop counts₀ kinds first end j₀ counts j = end - j
+abbrev decreases-loop-j : tie.decreases-loop-j
+decreases-loop-j counts₀ kinds first end j₀ counts j = end - j
 
-loop-holds : tie.Need-loop-init invariant-loop decreases-loop
+loop-holds : tie.Need-loop-j-init invariant-loop-j decreases-loop-j
 loop-holds c =
     let room = c.requires.3 in
     record { below = c.requires.1; room = record { nine = room.nine; most = λ k h. omega (arith, room.most k h) }; left = refl }
 
 -- the places end within the table, so that no sum of places is too large
-add-loop : tie.Need-overflow-add-loop invariant-loop decreases-loop
-add-loop c = omega (arith, c.loop.invariant.below, c.before.requires.2)
+add-loop : tie.Need-overflow_add-j invariant-loop-j decreases-loop-j
+add-loop c = omega (arith, c.loop-j.invariant.below, c.requires.2)
 
-raise-requires : tie.Need-raise-requires invariant-loop decreases-loop
+raise-requires : tie.Need-raise-one-requires invariant-loop-j decreases-loop-j
 raise-requires c κs =
-    let turn = c.before.before in
-    let at = turn.before in
-    let pre = at.before.requires in
-    ready at.loop.invariant pre.2 pre.0 (omega (arith, turn.loop-test.true))
+    let pre = c.requires in
+    ready c.loop-j.invariant pre.2 pre.0 (omega (arith, c.loop-j-test.true))
 
 -- with the first of two places raised
-halfway : (c : tie.After-raise invariant-loop decreases-loop)
-    → let at = c.before.before.before.before in
-    Turn (raised_by at.before.args.counts.now (places group_kinds at.before.args.first at.before.args.end)) at.before.args.end (at.loop.j + 1) c.raise.result
+halfway : (c : tie.After-raise-one invariant-loop-j decreases-loop-j)
+    → Turn (raised_by c.args.counts.now (places group_kinds c.args.first c.args.end)) c.args.end (c.loop-j.j + 1) c.raise-one.result
 halfway c =
-    let turn = c.before.before.before in
-    let at = turn.before in
-    let pre = at.before.requires in
-    next at.loop.invariant pre.2 pre.0 (omega (arith, turn.loop-test.true)) c.raise.ensures
+    let pre = c.requires in
+    next c.loop-j.invariant pre.2 pre.0 (omega (arith, c.loop-j-test.true)) c.raise-one.ensures
 
-raise-requires-2 : tie.Need-raise-requires-2 invariant-loop decreases-loop
+raise-requires-2 : tie.Need-raise-two-requires invariant-loop-j decreases-loop-j
 raise-requires-2 c κs =
-    let turn = c.before.before.before.before in
-    let pre = turn.before.before.requires in
-    ready (halfway c.before) pre.2 pre.0 turn.loop-test.true
+    let pre = c.requires in
+    ready (halfway c.before) pre.2 pre.0 c.loop-j-test.true
 
-loop-again : tie.Need-loop-preserved invariant-loop decreases-loop
+loop-again : tie.Need-loop-j-preserved invariant-loop-j decreases-loop-j
 loop-again c =
-    let first = c.before.before in
-    let turn = first.before.before.before in
-    let at = turn.before in
-    let pre = at.before.requires in
-    let two : at.loop.j + 1 + 1 ≡ at.loop.j + 2 = omega arith in
-    rw (← two) (next (halfway first) pre.2 pre.0 turn.loop-test.true c.raise2.ensures)
+    let pre = c.requires in
+    let two : c.loop-j.j + 1 + 1 ≡ c.loop-j.j + 2 = omega arith in
+    rw (← two) (next (halfway c.before.before) pre.2 pre.0 c.loop-j-test.true c.raise-two.ensures)
 
--- the last of an odd number
-raise-requires-3 : tie.Need-raise-requires-3 invariant-loop decreases-loop
+-- the last of an c number
+raise-requires-3 : tie.Need-raise-last-requires invariant-loop-j decreases-loop-j
 raise-requires-3 c κs =
-    let odd = c.before.before in
-    let at = odd.before.before in
-    let pre = at.before.requires in
-    ready at.loop.invariant pre.2 pre.0 odd.if1.true
+    let pre = c.requires in
+    ready c.loop-j.invariant pre.2 pre.0 c.if-j-end.true
 
-returns : tie.Need-returns invariant-loop decreases-loop
+returns : tie.Need-returns-then-j-end invariant-loop-j decreases-loop-j
 returns c =
-    let odd = c.before.before.before in
-    let at = odd.before.before in
-    let pre = at.before.requires in
-    let last = next at.loop.invariant pre.2 pre.0 odd.if1.true c.raise3.ensures in
-    done last pre.2 odd.before.loop-test.false
+    let pre = c.requires in
+    let last = next c.loop-j.invariant pre.2 pre.0 c.if-j-end.true c.raise-last.ensures in
+    done last pre.2 c.loop-j-test.false
 
-returns-2 : tie.Need-returns-2 invariant-loop decreases-loop
-returns-2 c = let at = c.before.before in done at.loop.invariant at.before.requires.2 c.if1.false
+returns-2 : tie.Need-returns-else-j-end invariant-loop-j decreases-loop-j
+returns-2 c = done c.loop-j.invariant c.requires.2 c.if-j-end.false
 
-pub count-group-spec : {M : Type 1} → statement M
-count-group-spec =
+pub count_group_spec : {M : Type 1} → statement M
+count_group_spec =
     tie.close
     (tie.spec
-    invariant-loop
-    decreases-loop
+    invariant-loop-j
+    decreases-loop-j
     loop-holds
     add-loop
     (λ c. search rules)

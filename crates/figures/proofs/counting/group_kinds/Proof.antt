@@ -8,5 +8,5 @@ returns : tie.Need-returns
 unfolding group_kinds
 returns c = refl
 
-pub group-kinds-spec : {M : Type 1} → statement M
-group-kinds-spec = tie.close (tie.spec returns)
+pub group_kinds_spec : {M : Type 1} → statement M
+group_kinds_spec = tie.close (tie.spec returns)

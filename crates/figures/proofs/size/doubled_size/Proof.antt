@@ -14,46 +14,39 @@ use Rattle.figures.proofs.Refusing.{not_checked, too_large, fits}
 use Rattle.figures.proofs.size.doubled_size.Statement.{statement}
 use Rattle.figures.proofs.size.doubled_size.Tie as tie
 
-returns : tie.Need-returns
+returns : tie.Need-returns-in-Refused
 returns c =
-    let known = c.before.before in
-    let begin = known.before.before.before.before in
-    c.no_size.ensures ∙ sym (not_checked begin.args.image.now _ (sym known.before.before.check.ensures ∙ ap refusal_in known.o.given.1))
+    c.no_size.ensures ∙ sym (not_checked c.args.image.now _ (sym c.check-o.ensures ∙ ap refusal_in c.in-Refused.is))
 
 -- past checking
-accepted : (c : tie.After-enum-told) → check_refusal c.before.before.before.before.args.image.now ≡ none
-accepted c = sym c.before.before.check.ensures ∙ ap refusal_in c.enum_told.given.1
+accepted : (c : tie.In_default) → check_refusal c.args.image.now ≡ none
+accepted c = sym c.check-o.ensures ∙ ap refusal_in c.in_default.is
 
-sizes-of-requires : tie.Need-sizes-of-requires
+sizes-of-requires : tie.Need-sizes_of-n-requires
 sizes-of-requires c κs = omega (arith, ((check_none _).0 (accepted c)).exact)
 
-sum-lengths-requires : tie.Need-sum-lengths-requires
-sum-lengths-requires c κs = (accepted c.before, ap (λ (z : Sizes). z.nets) c.sizes-of.ensures)
+sum-lengths-requires : tie.Need-sum_lengths-size-requires
+sum-lengths-requires c κs = (accepted c.before, ap (λ (z : Sizes). z.nets) c.sizes_of-n.ensures)
 
-returns-2 : tie.Need-returns-2
+returns-2 : tie.Need-returns-then-size-gt8192
 returns-2 c =
-    let sized = c.before.before in
-    let begin = sized.before.before.before.before.before.before in
-    c.no-size2.ensures
-    ∙ sym (too_large begin.args.image.now (accepted sized.before.before) (rw (← sized.sum-lengths.ensures) c.before.if1.true))
+    c.no_size-then-size-gt8192.ensures
+    ∙ sym (too_large c.args.image.now (accepted c.before.before.before.before) (rw (← c.sum_lengths-size.ensures) c.if-size-gt8192.true))
 
 -- past 15
-room : (c : tie.Else1) → doubled_size (nets_of c.before.before.before.before.before.before.before.args.image.now) ≤ 8192
-room c = rw (← c.before.sum-lengths.ensures) c.if1.false
+room : (c : tie.Else-size-gt8192) → doubled_size (nets_of c.args.image.now) ≤ 8192
+room c = rw (← c.sum_lengths-size.ensures) c.if-size-gt8192.false
 
-count-kinds-requires : tie.Need-count-kinds-requires
+count-kinds-requires : tie.Need-count_kinds-requires
 count-kinds-requires c κs =
-    let read = c.before.before in
-    (accepted read.before, ap (λ (z : Sizes). z.nets) read.sizes-of.ensures, room c)
+    (accepted c.before.before.before, ap (λ (z : Sizes). z.nets) c.sizes_of-n.ensures, room c)
 
-returns-3 : tie.Need-returns-3
+returns-3 : tie.Need-returns
 returns-3 c =
-    let sized = c.before.before in
-    let begin = sized.before.before.before.before.before.before in
-    rw (sized.sum-lengths.ensures, c.count-kinds.ensures) (sym (fits begin.args.image.now (accepted sized.before.before) (room c.before)))
+    rw (c.sum_lengths-size.ensures, c.count_kinds.ensures) (sym (fits c.args.image.now (accepted c.before.before.before.before) (room c.before)))
 
-pub doubled-size-spec : {M : Type 1} → statement M
-doubled-size-spec =
+pub doubled_size_spec : {M : Type 1} → statement M
+doubled_size_spec =
     tie.close
     (tie.spec
     (λ c κs. search rules)

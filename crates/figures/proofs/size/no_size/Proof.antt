@@ -6,5 +6,5 @@ use Rattle.figures.proofs.size.no_size.Tie as tie
 returns : tie.Need-returns
 returns c = refl
 
-pub no-size-spec : {M : Type 1} → statement M
-no-size-spec = tie.close (tie.spec returns)
+pub no_size_spec : {M : Type 1} → statement M
+no_size_spec = tie.close (tie.spec returns)

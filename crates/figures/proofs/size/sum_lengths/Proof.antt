@@ -14,57 +14,49 @@ use Rattle.doubled.proofs.Sums.{start_zero, kind_small, next_start, starts_fit}
 use Rattle.figures.proofs.size.sum_lengths.Statement.{statement}
 use Rattle.figures.proofs.size.sum_lengths.Tie as tie
 
-abbrev invariant-loop : tie.invariant-loop
-invariant-loop image n lengths size₀ i₀ size i = (i ≤ n) × (size ≡ value_net (nets_of image) i)
+abbrev invariant-loop-i : tie.invariant-loop-i
+invariant-loop-i image n lengths size₀ i₀ size i = (i ≤ n) × (size ≡ value_net (nets_of image) i)
 
-abbrev decreases-loop : tie.decreases-loop
-decreases-loop image n lengths size₀ i₀ size i = n - i
+abbrev decreases-loop-i : tie.decreases-loop-i
+decreases-loop-i image n lengths size₀ i₀ size i = n - i
 
-checked : (c : tie.Start invariant-loop decreases-loop) → Checked c.args.image.now
+checked : (c : tie.Start invariant-loop-i decreases-loop-i) → Checked c.args.image.now
 checked c = (check_none _).0 c.requires.0
 
-loop-holds : tie.Need-loop-init invariant-loop decreases-loop
+loop-holds : tie.Need-loop-i-init invariant-loop-i decreases-loop-i
 loop-holds c = (omega arith, sym (start_zero _))
 
 -- net i: its kind, and the length of its group
-kind-of-requires : tie.Need-kind-of-requires invariant-loop decreases-loop
+kind-of-requires : tie.Need-kind_of-kind-requires invariant-loop-i decreases-loop-i
 kind-of-requires c κs =
-    let begin = c.before.before.before.before in
-    omega (arith, (checked begin).exact, begin.requires.1, c.loop-test.true)
+    omega (arith, (checked c.before.before.before.before).exact, c.requires.1, c.loop-i-test.true)
 
-kind : (c : tie.After-kind-of invariant-loop decreases-loop) → c.kind-of.result < 9
+kind : (c : tie.After-kind_of-kind invariant-loop-i decreases-loop-i) → c.kind_of-kind.result < 9
 kind c =
-    let at = c.before.before in
-    let begin = at.before.before.before in
-    rw c.kind-of.ensures (kind_small (checked begin) at.loop.i begin.requires.1 c.before.loop-test.true)
+    rw c.kind_of-kind.ensures (kind_small (checked c.before.before.before.before.before) c.loop-i.i c.requires.1 c.loop-i-test.true)
 
-next : (c : tie.After-kind-of invariant-loop decreases-loop)
-    → let at = c.before.before in
-    at.loop.size + get_or at.before.group-lengths.result c.kind-of.result 0 ≡ value_net (nets_of at.before.before.before.args.image.now) (at.loop.i + 1)
+next : (c : tie.After-kind_of-kind invariant-loop-i decreases-loop-i)
+    → c.loop-i.size + get_or c.group_lengths-lengths.result c.kind_of-kind.result 0 ≡ value_net (nets_of c.args.image.now) (c.loop-i.i + 1)
 unfolding group_length
 next c =
-    let at = c.before.before in
-    let begin = at.before.before.before in
-    rw (at.loop.invariant.1, at.before.group-lengths.ensures, c.kind-of.ensures) (sym (next_start (checked begin) at.loop.i begin.requires.1 c.before.loop-test.true))
+    rw (c.loop-i.invariant.1, c.group_lengths-lengths.ensures, c.kind_of-kind.ensures) (sym (next_start (checked c.before.before.before.before.before) c.loop-i.i c.requires.1 c.loop-i-test.true))
 
-add-size : tie.Need-overflow-add-size invariant-loop decreases-loop
-add-size c = let at = c.before.before in omega (arith, next c, starts_fit (checked at.before.before.before) (at.loop.i + 1))
+add-size : tie.Need-overflow_add-size invariant-loop-i decreases-loop-i
+add-size c = omega (arith, next c, starts_fit (checked c.before.before.before.before.before) (c.loop-i.i + 1))
 
-loop-again : tie.Need-loop-preserved invariant-loop decreases-loop
-loop-again c = (omega (arith, c.before.loop-test.true), next c)
+loop-again : tie.Need-loop-i-preserved invariant-loop-i decreases-loop-i
+loop-again c = (omega (arith, c.loop-i-test.true), next c)
 
-returns : tie.Need-returns invariant-loop decreases-loop
+returns : tie.Need-returns invariant-loop-i decreases-loop-i
 returns c =
-    let at = c.before in
-    let begin = at.before.before.before in
-    at.loop.invariant.1 ∙ value_end _ at.loop.i (omega (arith, c.loop-test.false, begin.requires.1, length_nets begin.args.image.now))
+    c.loop-i.invariant.1 ∙ value_end _ c.loop-i.i (omega (arith, c.loop-i-test.false, c.requires.1, length_nets c.args.image.now))
 
-pub sum-lengths-spec : {M : Type 1} → statement M
-sum-lengths-spec =
+pub sum_lengths_spec : {M : Type 1} → statement M
+sum_lengths_spec =
     tie.close
     (tie.spec
-    invariant-loop
-    decreases-loop
+    invariant-loop-i
+    decreases-loop-i
     (λ c κs. search rules)
     loop-holds
     kind-of-requires

@@ -4,7 +4,7 @@ use Rattle.large_groups.proofs.group.put.Statement.{statement}
 use Rattle.large_groups.proofs.group.put.Tie as tie
 
 returns : tie.Need-returns
-returns c = c.before.before.put-net.ensures
+returns c = c.put_net.ensures
 
 pub put_spec : {M : Type 1} → statement M
 put_spec = tie.close (tie.spec (λ c κs. search rules) (λ c. search rules) returns)

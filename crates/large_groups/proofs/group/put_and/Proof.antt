@@ -6,13 +6,10 @@ use Rattle.large_groups.proofs.group.put_and.Tie as tie
 
 returns : tie.Need-returns
 returns c =
-    let s = c.before.before in
-    let q = s.before.before.before.before in
-    let value = q.before.before.before.before in
-    all_put (two value.put_two.ensures (two q.put-two2.ensures (two s.put-two3.ensures done)))
+    all_put (two c.put_two.ensures (two c.put_two-2.ensures (two c.put_two-3.ensures done)))
 
-pub put-and-spec : {M : Type 1} → statement M
-put-and-spec =
+pub put_and_spec : {M : Type 1} → statement M
+put_and_spec =
     tie.close
     (tie.spec
     (λ c. search rules)

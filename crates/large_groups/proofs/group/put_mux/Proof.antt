@@ -6,17 +6,12 @@ use Rattle.large_groups.proofs.group.put_mux.Tie as tie
 
 returns : tie.Need-returns
 returns c =
-    let mark = c.before.before in
-    let z = mark.before.before.before.before in
-    let r = z.before.before.before.before in
-    let p = r.before.before.before.before in
-    let value = p.before.before.before.before in
     all_put
-    (one value.put.ensures
-    (two p.put_two.ensures (two r.put-two2.ensures (one z.put2.ensures (one mark.put3.ensures done)))))
+    (one c.put.ensures
+    (two c.put_two.ensures (two c.put_two-2.ensures (one c.put-2.ensures (one c.put-3.ensures done)))))
 
-pub put-mux-spec : {M : Type 1} → statement M
-put-mux-spec =
+pub put_mux_spec : {M : Type 1} → statement M
+put_mux_spec =
     tie.close
     (tie.spec
     (λ c. search rules)

@@ -6,15 +6,11 @@ use Rattle.large_groups.proofs.group.put_or.Tie as tie
 
 returns : tie.Need-returns
 returns c =
-    let s = c.before.before in
-    let q = s.before.before.before.before in
-    let n = q.before.before.before.before in
-    let value = n.before.before.before.before in
     all_put
-    (two value.put_two.ensures (two n.put-two2.ensures (two q.put-two3.ensures (two s.put-two4.ensures done))))
+    (two c.put_two.ensures (two c.put_two-2.ensures (two c.put_two-3.ensures (two c.put_two-4.ensures done))))
 
-pub put-or-spec : {M : Type 1} → statement M
-put-or-spec =
+pub put_or_spec : {M : Type 1} → statement M
+put_or_spec =
     tie.close
     (tie.spec
     (λ c. search rules)

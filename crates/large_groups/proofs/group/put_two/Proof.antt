@@ -6,12 +6,10 @@ use Rattle.large_groups.proofs.group.put_two.Tie as tie
 
 returns : tie.Need-returns
 returns c =
-    let mark = c.before.before in
-    let value = mark.before.before.before.before in
-    all_put (one value.put.ensures (one mark.put2.ensures done))
+    all_put (one c.put.ensures (one c.put-2.ensures done))
 
-pub put-two-spec : {M : Type 1} → statement M
-put-two-spec =
+pub put_two_spec : {M : Type 1} → statement M
+put_two_spec =
     tie.close
     (tie.spec
     (λ c κs. search rules)
