@@ -11,33 +11,30 @@ use Rattle.static_run.specs.StaticCalls.{static_power_up_refusal}
 use Rattle.static_run.proofs.refusing.static_power_up_refusal.Statement.{statement}
 use Rattle.static_run.proofs.refusing.static_power_up_refusal.Tie as tie
 
-returns : tie.Need-returns
+returns : tie.Need-returns-in-Refused
 unfolding static_power_up_refusal
 returns c =
-    let known = c.before in
-    rw (sym known.before.before.check.ensures ∙ ap refusal_in known.o.given.1)
+    rw (sym c.check-o.ensures ∙ ap refusal_in c.in-Refused.is)
 
 -- past checking
-accepted : (c : tie.After-enum-told) → check_refusal c.before.before.before.before.before.args.image.now ≡ none
-accepted c = sym c.before.before.check.ensures ∙ ap refusal_in c.enum_told.given.1
+accepted : (c : tie.In_default) → check_refusal c.args.image.now ≡ none
+accepted c = sym c.check-o.ensures ∙ ap refusal_in c.in_default.is
 
-sizes-of-requires : tie.Need-sizes-of-requires
+sizes-of-requires : tie.Need-sizes_of-z-requires
 sizes-of-requires c κs = let image = (check_none _).0 (accepted c) in omega (arith, image.exact)
 
-returns-2 : tie.Need-returns-2
+returns-2 : tie.Need-returns-then-state-z
 unfolding static_power_up_refusal bad_length
 returns-2 c =
-    let sized = c.before.before.before in
-    rw (accepted sized.before, ← sized.sizes-of.ensures, ne_eqb _ _ c.before.if1.true) c.refused.ensures
+    rw (accepted c.before.before.before.before, ← c.sizes_of-z.ensures, ne_eqb _ _ c.if-state-z.true) c.refused.ensures
 
-returns-3 : tie.Need-returns-3
+returns-3 : tie.Need-returns
 unfolding static_power_up_refusal bad_length
 returns-3 c =
-    let sized = c.before.before in
-    rw (accepted sized.before, ← sized.sizes-of.ensures, eq-eqb _ _ c.if1.false)
+    rw (accepted c.before.before.before, ← c.sizes_of-z.ensures, eq-eqb _ _ c.if-state-z.false)
 
-pub static-power-up-refusal-spec : {M : Type 1} → statement M
-static-power-up-refusal-spec =
+pub static_power_up_refusal_spec : {M : Type 1} → statement M
+static_power_up_refusal_spec =
     tie.close
     (tie.spec
     (λ c κs. search rules)

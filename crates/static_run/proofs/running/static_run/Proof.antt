@@ -9,27 +9,25 @@ use Rattle.static_run.proofs.StaticRefused.{static_refused, static_taken, static
 use Rattle.static_run.proofs.running.static_run.Statement.{statement}
 use Rattle.static_run.proofs.running.static_run.Tie as tie
 
-returns : tie.Need-returns
+returns : tie.Need-returns-in-Refused
 returns c =
-    let known = c.before in
-    sym (static_refused _ _ _ _ _ _ (sym known.before.before.static-run-refusal.ensures ∙ ap refusal_in known.o.given.1))
+    sym (static_refused _ _ _ _ _ _ (sym c.static_run_refusal-o.ensures ∙ ap refusal_in c.in-Refused.is))
 
 -- no refusal was given
-not_refused : (c : tie.After-enum-told)
-    → let args = c.before.before.before.before.before.before.before.before.before.args in
+not_refused : (c : tie.In_default)
+    → let args = c.args in
     static_run_refusal args.image.now args.state.now args.k args.rows.now args.outputs.now ≡ none
-not_refused c = sym c.before.before.static-run-refusal.ensures ∙ ap refusal_in c.enum_told.given.1
+not_refused c = sym c.static_run_refusal-o.ensures ∙ ap refusal_in c.in_default.is
 
 cycles-requires : tie.Need-cycles-requires
 cycles-requires c κs = (inr refl, static_taken _ _ _ _ _ (not_refused c.before.before))
 
-returns-2 : tie.Need-returns-2
+returns-2 : tie.Need-returns
 returns-2 c =
-    let ran = c.before.before.before.before in
-    ran.cycles.ensures ∙ static_ran _ _ _ _ _ (not_refused ran.before.before.before)
+    c.cycles.ensures ∙ static_ran _ _ _ _ _ (not_refused c.before.before.before.before.before.before.before)
 
-pub static-run-spec : {M : Type 1} → statement M
-static-run-spec =
+pub static_run_spec : {M : Type 1} → statement M
+static_run_spec =
     tie.close
     (tie.spec
     (λ c κs. search rules)

@@ -14,36 +14,33 @@ use Rattle.static_run.proofs.StaticRefused.{static_power_up_accepted, static_pow
 use Rattle.static_run.proofs.starting.static_power_up.Statement.{statement}
 use Rattle.static_run.proofs.starting.static_power_up.Tie as tie
 
-returns : tie.Need-returns
+returns : tie.Need-returns-in-Refused
 returns c =
-    let known = c.before in
-    sym (static_power_up_refused _ _ _ (sym known.before.before.static-power-up-refusal.ensures ∙ ap refusal_in known.o.given.1))
+    sym (static_power_up_refused _ _ _ (sym c.static_power_up_refusal-o.ensures ∙ ap refusal_in c.in-Refused.is))
 
 -- past the refusals
-accepted : (c : tie.After-enum-told) → let args = c.before.before.before.before.before.before.args in static_power_up_refusal args.image.now args.state.now ≡ none
-accepted c = sym c.before.before.static-power-up-refusal.ensures ∙ ap refusal_in c.enum_told.given.1
+accepted : (c : tie.In_default) → let args = c.args in static_power_up_refusal args.image.now args.state.now ≡ none
+accepted c = sym c.static_power_up_refusal-o.ensures ∙ ap refusal_in c.in_default.is
 
-sizes-of-requires : tie.Need-sizes-of-requires
+sizes-of-requires : tie.Need-sizes_of-z-requires
 sizes-of-requires c κs = let image = ((static_power_up_none _ _).0 (accepted c)).0 in omega (arith, image.exact)
 
-take-starts-requires : tie.Need-take-starts-requires
+take-starts-requires : tie.Need-take_starts-requires
 take-starts-requires c κs =
-    let sized = c.before in
-    let ready = (static_power_up_none _ _).0 (accepted sized.before) in
-    ((check_none _).1 ready.0, (ap (λ (z : Sizes). z.nets) sized.sizes-of.ensures, ready.1))
+    let ready = (static_power_up_none _ _).0 (accepted c.before.before) in
+    ((check_none _).1 ready.0, (ap (λ (z : Sizes). z.nets) c.sizes_of-z.ensures, ready.1))
 
 -- one without a start wakes with 6
 wakes_6 : (xs : List Net) → starts_by 6 xs ≡ static_starts xs
 unfolding starts_by start_by static_starts static_start
 wakes_6 xs = refl
 
-returns-2 : tie.Need-returns-2
+returns-2 : tie.Need-returns
 returns-2 c =
-    let started = c.before.before in
-    rw (started.take-starts.ensures.0, wakes_6) (sym (static_power_up_accepted _ _ (accepted started.before.before.before)))
+    rw (c.take_starts.ensures.0, wakes_6) (sym (static_power_up_accepted _ _ (accepted c.before.before.before.before.before)))
 
-pub static-power-up-spec : {M : Type 1} → statement M
-static-power-up-spec =
+pub static_power_up_spec : {M : Type 1} → statement M
+static_power_up_spec =
     tie.close
     (tie.spec
     (λ c κs. search rules)
