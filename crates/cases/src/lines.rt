@@ -3,17 +3,18 @@ use crate::calls::{call, image};
 use cases_text::{byte_at, has_unknown_word, list, next, number, say, say_text, until};
 
 // Makes the call at p on the lists behind it.
-fn make_call(t: &[u8], p: usize) {
+fn make_call(rt: &impl Print, t: &[u8], p: usize) {
     let mut space = io::large_buffer();
-    let n = image(t, p, &mut space);
+    let n = image(rt, t, p, &mut space);
     let mut state = io::buffer();
-    let s = list(t, p, b's', &mut state);
+    let s = list(rt, t, p, b's', &mut state);
     let mut rows = io::large_buffer();
-    let r = list(t, p, b'r', &mut rows);
+    let r = list(rt, t, p, b'r', &mut rows);
     let mut buffer = io::large_buffer();
-    let b = list(t, p, b'b', &mut buffer);
+    let b = list(rt, t, p, b'b', &mut buffer);
     let k = number(t, until(t, p, b' '));
     call(
+        rt,
         byte_at(t, p),
         k.value,
         &space[..n],
@@ -24,32 +25,32 @@ fn make_call(t: &[u8], p: usize) {
 }
 
 // The case of the line at p: its name, which stands in quotes, is printed, and the call behind it is made.
-fn case(t: &[u8], p: usize) {
+fn case(rt: &impl Print, t: &[u8], p: usize) {
     let name = next(t, until(t, p, b'"'));
     let end = until(t, name, b'"');
-    say_text(t, name, end);
+    say_text(rt, t, name, end);
     let call = next(t, next(t, end));
-    make_call(t, call);
+    make_call(rt, t, call);
     if has_unknown_word(t, call) {
-        say(b" [unknown word]");
+        say(rt, b" [unknown word]");
     }
 }
 
 // The line from p to before `end`: a case; or a comment, or a list with a name, for which nothing is to be done. Where the next line begins with + the line
 // of output goes on.
-fn line(t: &[u8], p: usize, end: usize) {
+fn line(rt: &impl Print, t: &[u8], p: usize, end: usize) {
     match byte_at(t, p) {
-        b'"' | b'+' => case(t, p),
+        b'"' | b'+' => case(rt, t, p),
         b'#' | b'\n' | b'a'..=b'z' => return,
-        _ => say(b"[unknown line]"),
+        _ => say(rt, b"[unknown line]"),
     }
     if byte_at(t, end) != b'+' {
-        say(b"\n");
+        say(rt, b"\n");
     }
 }
 
 // All lines. A loop that is proved has to end, so its turns are counted: there are no more lines than bytes.
-pub fn execute(t: &[u8]) {
+pub fn execute(rt: &impl Print, t: &[u8]) {
     let mut p: usize = 0;
     let mut left = t.len();
     while p < t.len() {
@@ -57,7 +58,7 @@ pub fn execute(t: &[u8]) {
             break;
         }
         let end = next(t, until(t, p, b'\n'));
-        line(t, p, end);
+        line(rt, t, p, end);
         p = end;
         left -= 1;
     }

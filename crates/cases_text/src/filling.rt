@@ -43,22 +43,22 @@ fn put_times(buffer: &mut [u8], at: usize, n: Numeral, two: bool) -> usize {
 }
 
 // So many bytes at the start of a buffer; none where it has fewer, which is said.
-pub fn within(n: usize, buffer: &[u8]) -> usize
+pub fn within(rt: &impl Print, n: usize, buffer: &[u8]) -> usize
     ensures { IsPrefixLen result buffer.now }
 {
     if n <= buffer.len() {
         return n;
     }
-    say(b" [a list or a number in it is too large]");
+    say(rt, b" [a list or a number in it is too large]");
     0
 }
 
 // The list with this letter in the line at p: how many bytes it has. Numbers are one byte; those of an image are two, and behind each bar it is the other
 // way round.
-pub fn list(t: &[u8], p: usize, letter: u8, buffer: &mut [u8]) -> usize
+pub fn list(rt: &impl Print, t: &[u8], p: usize, letter: u8, buffer: &mut [u8]) -> usize
     ensures { IsPrefixLen result buffer.new }
 {
-    let mut next = place(t, p, letter);
+    let mut next = place(rt, t, p, letter);
     let mut at: usize = 0;
     let mut two = letter == b'i';
     let mut left = t.len();
@@ -72,5 +72,5 @@ pub fn list(t: &[u8], p: usize, letter: u8, buffer: &mut [u8]) -> usize
         next = n.next;
         left -= 1;
     }
-    within(at, buffer)
+    within(rt, at, buffer)
 }

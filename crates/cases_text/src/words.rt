@@ -23,7 +23,7 @@ fn find(t: &[u8], p: usize, mark: u8, letter: u8) -> usize {
 
 // The place of the list with this letter in the line at p: behind its word; or, where @ and a name stand behind the word, behind this name at the start of
 // a line. With no such word there is no list, and its place is the end of the text.
-pub fn place(t: &[u8], p: usize, letter: u8) -> usize {
+pub fn place(rt: &impl Print, t: &[u8], p: usize, letter: u8) -> usize {
     let q = find(t, p, b' ', letter);
     let name = next(t, q);
     if byte_at(t, name) != b'@' {
@@ -31,7 +31,7 @@ pub fn place(t: &[u8], p: usize, letter: u8) -> usize {
     }
     let list = find(t, 0, b'\n', byte_at(t, next(t, name)));
     if list == t.len() {
-        say(b" [no list has this name]");
+        say(rt, b" [no list has this name]");
     }
     list
 }

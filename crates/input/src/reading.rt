@@ -3,8 +3,16 @@ ghost use Rattle.std.specs.Prelude.{◌≡◌, true, ◌+◌, ◌%◌, ◌≤◌
 ghost use Rattle.input.specs.Rest.{rest_of};
 ghost use Rattle.io.specs.Counts.{IsPrefixLen};
 
+use failures::say_failure;
+use std::fs;
+use std::io::Read;
+use std::rt::Files;
+
 // The largest image has 8 + 7 × 8,192 bytes. One byte more is read, so that a longer file is not taken for an image.
 pub const MOST_IMAGE: usize = 57353;
+
+// The file that has the image.
+const IMAGE: &str = "net.bin";
 
 // How many bytes were read into a buffer, and whether a read failed after them.
 #[derive(Clone, Copy)]
@@ -13,29 +21,45 @@ pub struct Filled {
     pub failed: bool,
 }
 
-// One read behind the bytes that are there, which stay: how many more came. There is room for one at least, so none is the end of the input.
-pub fn read_more(fd: i32, buffer: &mut [u8], from: usize) -> Filled
+// One read behind the bytes that are there, which stay: how many more came. There is room for one at least, so none is the end of the input,
+// or a read that failed, whose reason is said on standard error under the input's name.
+pub fn read_more<R: Read>(
+    rt: &impl Eprint,
+    name: &str,
+    input: &mut R,
+    buffer: &mut [u8],
+    from: usize,
+) -> Filled
     requires { from < length buffer.old }
     ensures bytes_in_bounds { from + result.bytes ≤ length buffer.new }
     ensures buffer_unchanged { take from buffer.new ≡ take from buffer.old }
 {
-    let got = libc::read(fd, &mut buffer[from..]);
-    let bytes = io::count(got, &buffer[from..]);
-    Filled {
-        bytes,
-        failed: got < 0,
+    let got = input.read(&mut buffer[from..]);
+    match got {
+        Ok(bytes) => Filled {
+            bytes,
+            failed: false,
+        },
+        Err(error) => {
+            say_failure(rt, name, &error);
+            Filled {
+                bytes: 0,
+                failed: true,
+            }
+        }
     }
 }
 
-// Reads until the buffer is full, the input ends or a read fails, which it does only where bytes are missing.
-pub fn fill(fd: i32, buffer: &mut [u8]) -> Filled
+// Reads until the buffer is full, the input ends or a read fails, which it does only where bytes are missing, and which is said on standard
+// error under the input's name.
+pub fn fill<R: Read>(rt: &impl Eprint, name: &str, input: &mut R, buffer: &mut [u8]) -> Filled
     ensures prefix_len { IsPrefixLen result.bytes buffer.new }
     ensures bytes_in_bounds { result.failed ≡ true → result.bytes < length buffer.new }
 {
     let mut bytes: usize = 0;
     let mut failed = false;
     while bytes < buffer.len() {
-        let more = read_more(fd, buffer, bytes);
+        let more = read_more(rt, name, input, buffer, bytes);
         if more.bytes == 0 {
             failed = more.failed;
             break;
@@ -47,20 +71,20 @@ pub fn fill(fd: i32, buffer: &mut [u8]) -> Filled
 
 // The first bytes of net.bin. A file that is missing or cannot be opened counts as 0 bytes, and a read that fails as the end of the file; the
 // reason is said on standard error.
-pub fn read_image(buffer: &mut [u8; MOST_IMAGE]) -> usize
+pub fn read_image<R: Files + Eprint>(rt: &R, buffer: &mut [u8; MOST_IMAGE]) -> usize
     ensures { IsPrefixLen result buffer.new }
 {
-    let fd = os::open_read(b"net.bin");
-    if fd < 0 {
-        os::fail(b"net.bin");
-        return 0;
+    let opened = fs::open(rt, IMAGE);
+    match opened {
+        Ok(file) => {
+            let mut file = file;
+            fill(rt, IMAGE, &mut file, buffer).bytes
+        }
+        Err(error) => {
+            say_failure(rt, IMAGE, &error);
+            0
+        }
     }
-    let got = fill(fd, buffer);
-    if got.failed {
-        os::fail(b"net.bin");
-    }
-    libc::close(fd);
-    got.bytes
 }
 
 // Moves the bytes of an unfinished row to the front, where the next read goes behind them: how many they are.

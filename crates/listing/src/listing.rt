@@ -19,6 +19,7 @@ use listing_output::{Progress, begun, print_end, print_refusal};
 use listing_turns::take_turn;
 use lists::list_nets;
 use refusals::Outcome;
+use std::io::{Read, Write};
 use tracker::power_up;
 
 // A proved loop has to end, and nothing says that the input does. So the reads are counted, up to a number that no listing reaches, and the
@@ -27,7 +28,10 @@ const MOST_READS: u64 = 140737488355328;
 
 // The OUTs are listed, and the state powers up; then turns are made until the listing is closed. A listing that is still open after the most
 // reads counts as failed.
-fn take_input(
+fn take_input<I: Read, W: Write>(
+    rt: &impl Eprint,
+    input: &mut I,
+    output: &mut W,
     image: &[u8],
     inputs: usize,
     outs: &mut [u16],
@@ -49,7 +53,9 @@ fn take_input(
     let mut have: usize = 0;
     let mut reads: u64 = 0;
     while p.open & !p.failed & (reads < MOST_READS) {
-        let turn = take_turn(image, outs, inputs, state, outputs, rows, have, p, text);
+        let turn = take_turn(
+            rt, input, output, image, outs, inputs, state, outputs, rows, have, p, text,
+        );
         let next = turn.progress;
         p = next;
         have = turn.have;
@@ -65,13 +71,20 @@ fn take_input(
 }
 
 // The listing of an image that is accepted. The buffer for rows is as long as some whole rows.
-fn list_accepted(image: &[u8], z: Sizes, text: &mut [u8; 65536]) -> Progress
+fn list_accepted<I: Read, W: Write>(
+    rt: &impl Eprint,
+    input: &mut I,
+    output: &mut W,
+    image: &[u8],
+    z: Sizes,
+    text: &mut [u8; 65536],
+) -> Progress
     requires { (check_refusal image.now ≡ none) × (z ≡ sizes_of image.now) }
     ensures result_after { z.inputs ≡ 0 → printed text.new result ≡ with_last (end_line 0) (blank text.old) }
     ensures listing { result.failed ≡ false → Listing image.now text.old (printed text.new result) }
 {
     if z.inputs == 0 {
-        return print_end(text, begun());
+        return print_end(rt, output, text, begun());
     }
     let mut outs = [0u16; 8192];
     let mut state = [0u8; 8194];
@@ -81,6 +94,9 @@ fn list_accepted(image: &[u8], z: Sizes, text: &mut [u8; 65536]) -> Progress
     let st = state_length(z);
     let n = 65536 / z.inputs * z.inputs;
     take_input(
+        rt,
+        input,
+        output,
         image,
         z.inputs,
         &mut outs[..o],
@@ -92,7 +108,13 @@ fn list_accepted(image: &[u8], z: Sizes, text: &mut [u8; 65536]) -> Progress
 }
 
 // The listing of an image. The text is lent for the lines, until they are written out.
-pub fn list(image: &[u8], text: &mut [u8; 65536]) -> Progress
+pub fn list<I: Read, W: Write>(
+    rt: &impl Eprint,
+    input: &mut I,
+    output: &mut W,
+    image: &[u8],
+    text: &mut [u8; 65536],
+) -> Progress
     ensures result_after { reads_none image.now ≡ true → printed text.new result ≡ listing_of image.now [] text.old }
     ensures listing { result.failed ≡ false → Listing image.now text.old (printed text.new result) }
 {
@@ -100,8 +122,8 @@ pub fn list(image: &[u8], text: &mut [u8; 65536]) -> Progress
     match o {
         Outcome::Done => {
             let z = sizes_of(image);
-            list_accepted(image, z, text)
+            list_accepted(rt, input, output, image, z, text)
         }
-        Outcome::Refused(r) => print_refusal(text, begun(), r),
+        Outcome::Refused(r) => print_refusal(rt, output, text, begun(), r),
     }
 }

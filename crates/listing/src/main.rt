@@ -5,9 +5,15 @@ mod listing;
 
 use input::{MOST_IMAGE, read_image};
 
-fn main() {
+fn main(rt: HostRuntime) {
     let mut space = [0u8; MOST_IMAGE];
-    let n = read_image(&mut space);
+    let n = read_image(&rt, &mut space);
     let mut text = [0u8; 65536];
-    listing::list(&space[..n], &mut text);
+    listing::list(
+        &rt,
+        &mut rt.stdin(),
+        &mut rt.stdout(),
+        &space[..n],
+        &mut text,
+    );
 }

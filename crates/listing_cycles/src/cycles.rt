@@ -5,9 +5,12 @@ ghost use Rattle.listing_cycles.specs.ByOutputs.{Outs, verdict_by, with_lines};
 
 use crate::outs::verdict_by;
 use listing_output::{Progress, print_cycle};
+use std::io::Write;
 
 // The line of the next cycle, by its output bytes.
-fn print_outputs(
+fn print_outputs<W: Write>(
+    rt: &impl Eprint,
+    output: &mut W,
     image: &[u8],
     outs: &[u16],
     outputs: &[u8],
@@ -21,11 +24,13 @@ fn print_outputs(
     ensures grown { Grown text.new 1 p result }
 {
     let verdict = verdict_by(image, outs, outputs);
-    print_cycle(text, p, outputs, verdict)
+    print_cycle(rt, output, text, p, outputs, verdict)
 }
 
 // A line for each of k cycles, whose output bytes stand one after another.
-pub fn print_cycles(
+pub fn print_cycles<W: Write>(
+    rt: &impl Eprint,
+    output: &mut W,
     image: &[u8],
     outs: &[u16],
     k: usize,
@@ -44,7 +49,7 @@ pub fn print_cycles(
     let mut c: usize = 0;
     while c < k {
         let end = from + outs.len();
-        let next = print_outputs(image, outs, &outputs[from..end], p, text);
+        let next = print_outputs(rt, output, image, outs, &outputs[from..end], p, text);
         p = next;
         from = end;
         c += 1;

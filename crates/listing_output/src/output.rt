@@ -5,9 +5,10 @@ ghost use Rattle.listing_text.specs.Lines.{end_line, refused_line};
 ghost use Rattle.listing_output.specs.Printed.{printed, next_place, closed, with_cycle, with_last, Room};
 
 use cycle::Verdict;
-use libc::STDOUT_FILENO;
+use failures::say_failure;
 use listing_text::{cycle_line, end_line, refused_line};
 use refusals::Refusal;
+use std::io::Write;
 
 // The longest line: a cycle of 20 digits, 8,192 outputs, a flow at a net of 20 digits, the spaces and the end of the line.
 const LONGEST: usize = 8240;
@@ -38,7 +39,7 @@ pub fn begun() -> Progress
 }
 
 // Writes out the lines that are not written out yet, unless a write failed before. The next line goes behind them all the same.
-pub fn write_out(text: &[u8], p: Progress) -> Progress
+pub fn write_out<W: Write>(rt: &impl Eprint, output: &mut W, text: &[u8], p: Progress) -> Progress
     requires { (p.written ≤ p.used) × (p.used ≤ length text.now) }
     ensures result_value { (printed text.now result ≡ printed text.now p) × (result.written ≡ result.used) }
     ensures failed_value { p.failed ≡ true → result.failed ≡ true }
@@ -47,9 +48,9 @@ pub fn write_out(text: &[u8], p: Progress) -> Progress
     if !failed {
         let from = p.written;
         let end = p.used;
-        let written = io::write_all(STDOUT_FILENO, &text[from..end]);
-        if !written {
-            os::fail(b"standard output");
+        let written = output.write_all(&text[from..end]);
+        if let Err(error) = written {
+            say_failure(rt, "standard output", &error);
             failed = true;
         }
     }
@@ -63,12 +64,12 @@ pub fn write_out(text: &[u8], p: Progress) -> Progress
 }
 
 // Writes out the text, so that the next line goes to its start.
-fn empty(text: &[u8], p: Progress) -> Progress
+fn empty<W: Write>(rt: &impl Eprint, output: &mut W, text: &[u8], p: Progress) -> Progress
     requires { (p.written ≤ p.used) × (p.used ≤ length text.now) }
     ensures used_value { (result.used ≡ 0) × (result.written ≡ 0) × (result.cycles ≡ p.cycles) × (result.open ≡ p.open) }
     ensures failed_value { p.failed ≡ true → result.failed ≡ true }
 {
-    let q = write_out(text, p);
+    let q = write_out(rt, output, text, p);
     Progress {
         cycles: q.cycles,
         used: 0,
@@ -79,26 +80,33 @@ fn empty(text: &[u8], p: Progress) -> Progress
 }
 
 // Writes out the text where the next line might not fit behind its lines.
-fn make_room(text: &[u8], p: Progress) -> Progress
+fn make_room<W: Write>(rt: &impl Eprint, output: &mut W, text: &[u8], p: Progress) -> Progress
     requires { (p.written ≤ p.used) × (p.used ≤ length text.now) }
     ensures used_value { (result.used ≡ next_place (length text.now) p.used) × (result.written ≤ result.used) × (result.cycles ≡ p.cycles) × (result.open ≡ p.open) }
     ensures failed_value { (8240 ≤ length text.now - p.used → result.failed ≡ p.failed) × (p.failed ≡ true → result.failed ≡ true) }
 {
     if text.len() - p.used < LONGEST {
-        empty(text, p)
+        empty(rt, output, text, p)
     } else {
         p
     }
 }
 
 // The line of the next cycle, behind those that are there.
-pub fn print_cycle(text: &mut [u8], p: Progress, outputs: &[u8], verdict: Verdict) -> Progress
+pub fn print_cycle<W: Write>(
+    rt: &impl Eprint,
+    output: &mut W,
+    text: &mut [u8],
+    p: Progress,
+    outputs: &[u8],
+    verdict: Verdict,
+) -> Progress
     requires { Room text.old p × (length outputs.now ≤ 8192) × (p.cycles + 1 < 2 ^ 64) }
     ensures result_after { printed text.new result ≡ with_cycle outputs.now (verdict_in verdict) (printed text.old p) }
     ensures failed_value { (8240 ≤ length text.old - p.used → result.failed ≡ p.failed) × (p.failed ≡ true → result.failed ≡ true) }
     ensures room { Room text.new result }
 {
-    let q = make_room(text, p);
+    let q = make_room(rt, output, text, p);
     let used = cycle_line(text, q.used, q.cycles, outputs, verdict);
     Progress {
         cycles: q.cycles + 1,
@@ -110,12 +118,20 @@ pub fn print_cycle(text: &mut [u8], p: Progress, outputs: &[u8], verdict: Verdic
 }
 
 // Writes out the last line, which ends at a place, and what is before it. The listing is closed then.
-fn write_last(text: &[u8], p: Progress, used: usize) -> Progress
+fn write_last<W: Write>(
+    rt: &impl Eprint,
+    output: &mut W,
+    text: &[u8],
+    p: Progress,
+    used: usize,
+) -> Progress
     requires { (p.written ≤ used) × (used ≤ length text.now) }
     ensures result_value { (printed text.now result ≡ closed (printed text.now p)) × (result.written ≡ 0) }
     ensures failed_value { p.failed ≡ true → result.failed ≡ true }
 {
     empty(
+        rt,
+        output,
         text,
         Progress {
             cycles: p.cycles,
@@ -128,23 +144,34 @@ fn write_last(text: &[u8], p: Progress, used: usize) -> Progress
 }
 
 // The last line, with the number of cycles.
-pub fn print_end(text: &mut [u8], p: Progress) -> Progress
+pub fn print_end<W: Write>(
+    rt: &impl Eprint,
+    output: &mut W,
+    text: &mut [u8],
+    p: Progress,
+) -> Progress
     requires { Room text.old p }
     ensures result_after { printed text.new result ≡ with_last (end_line p.cycles) (printed text.old p) }
     ensures failed_value { (p.failed ≡ true → result.failed ≡ true) × (result.written ≡ 0) }
 {
-    let q = make_room(text, p);
+    let q = make_room(rt, output, text, p);
     let used = end_line(text, q.used, q.cycles);
-    write_last(text, q, used)
+    write_last(rt, output, text, q, used)
 }
 
 // The last line of a listing that turned back.
-pub fn print_refusal(text: &mut [u8], p: Progress, refusal: Refusal) -> Progress
+pub fn print_refusal<W: Write>(
+    rt: &impl Eprint,
+    output: &mut W,
+    text: &mut [u8],
+    p: Progress,
+    refusal: Refusal,
+) -> Progress
     requires { Room text.old p }
     ensures result_after { printed text.new result ≡ with_last (refused_line refusal) (printed text.old p) }
     ensures failed_value { (p.failed ≡ true → result.failed ≡ true) × (result.written ≡ 0) }
 {
-    let q = make_room(text, p);
+    let q = make_room(rt, output, text, p);
     let used = refused_line(text, q.used, refusal);
-    write_last(text, q, used)
+    write_last(rt, output, text, q, used)
 }

@@ -9,6 +9,7 @@ use listing_cycles::print_cycles;
 use listing_output::{Progress, print_refusal};
 use refusals::Outcome;
 use row_runs::run_rows;
+use std::io::Write;
 
 // The most cycles of one run.
 const MOST_CYCLES: usize = 4096;
@@ -33,7 +34,9 @@ fn most_rows(outputs: usize, bytes: usize) -> usize
 
 // At most 4,096 rows: one run, and a line for each of its cycles. Where a row has a bad byte, the rows before it are run, and its refusal is
 // the last line.
-fn take_many(
+fn take_many<W: Write>(
+    rt: &impl Eprint,
+    output: &mut W,
     image: &[u8],
     outs: &[u16],
     inputs: usize,
@@ -52,16 +55,18 @@ fn take_many(
     let ran = run_rows(image, inputs, outs.len(), k, state, rows, outputs);
     let good = ran.good;
     let filled = good * outs.len();
-    let q = print_cycles(image, outs, good, &outputs[..filled], p, text);
+    let q = print_cycles(rt, output, image, outs, good, &outputs[..filled], p, text);
     let o = ran.outcome;
     match o {
         Outcome::Done => q,
-        Outcome::Refused(r) => print_refusal(text, q, r),
+        Outcome::Refused(r) => print_refusal(rt, output, text, q, r),
     }
 }
 
 // Whole rows, by as few runs as their number and the buffer for output bytes allow. No row follows a last line or a write that failed.
-pub fn take_rows(
+pub fn take_rows<W: Write>(
+    rt: &impl Eprint,
+    output: &mut W,
     image: &[u8],
     outs: &[u16],
     inputs: usize,
@@ -85,6 +90,8 @@ pub fn take_rows(
         let end = from + k * inputs;
         let filled = k * outs.len();
         let next = take_many(
+            rt,
+            output,
             image,
             outs,
             inputs,

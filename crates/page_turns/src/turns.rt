@@ -3,8 +3,9 @@ ghost use Rattle.std.specs.Prelude.{◌≡◌, false, ◌+◌, ◌*◌, ◌≤�
 ghost use Rattle.page_turns.specs.Turns.{Asks, Turned};
 
 use crate::putting::put_rows;
+use failures::say_failure;
 use input::fill;
-use libc::{STDIN_FILENO, STDOUT_FILENO};
+use std::io::{Read, Write};
 
 // The most rows of one turn: those of one page.
 const ON_PAGE: usize = 64;
@@ -21,18 +22,22 @@ pub struct Progress {
 }
 
 // Writes out the first bytes of the text. The answer is whether that failed.
-pub fn write_text(text: &[u8], used: usize) -> bool
+pub fn write_text<W: Write>(rt: &impl Eprint, output: &mut W, text: &[u8], used: usize) -> bool
     requires { used ≤ length text.now }
 {
-    let written = io::write_all(STDOUT_FILENO, &text[..used]);
-    if !written {
-        os::fail(b"standard output");
+    let written = output.write_all(&text[..used]);
+    if let Err(error) = written {
+        say_failure(rt, "standard output", &error);
+        return true;
     }
-    !written
+    false
 }
 
 // One turn. Where a read fails, nothing is printed: an unfinished page would look like the last one.
-pub fn take_turn(
+pub fn take_turn<I: Read, W: Write>(
+    rt: &impl Eprint,
+    input: &mut I,
+    output: &mut W,
     image: &[u8],
     outs: &[u16],
     inputs: usize,
@@ -45,9 +50,8 @@ pub fn take_turn(
     requires { Asks image.now inputs outs.now state.old outputs.old text.old × (length rows.old ≡ 64 * inputs) × (p.cycles + 64 < 2 ^ 64) }
     ensures { result.failed ≡ false → Turned image.now inputs state.old state.new rows.new text.new p result }
 {
-    let got = fill(STDIN_FILENO, rows);
+    let got = fill(rt, "standard input", input, rows);
     if got.failed {
-        os::fail(b"standard input");
         return Progress {
             cycles: p.cycles,
             read: 0,
@@ -68,7 +72,7 @@ pub fn take_turn(
         first,
         text,
     );
-    let failed = write_text(text, did.used);
+    let failed = write_text(rt, output, text, did.used);
     let cycles = first + did.good as u64;
     Progress {
         cycles,

@@ -7,9 +7,15 @@ mod printing;
 use input::{MOST_IMAGE, read_image};
 use printing::MOST_TEXT;
 
-fn main() {
+fn main(rt: HostRuntime) {
     let mut space = [0u8; MOST_IMAGE];
-    let n = read_image(&mut space);
+    let n = read_image(&rt, &mut space);
     let mut text = [0u8; MOST_TEXT];
-    printing::print(&space[..n], &mut text);
+    printing::print(
+        &rt,
+        &mut rt.stdin(),
+        &mut rt.stdout(),
+        &space[..n],
+        &mut text,
+    );
 }

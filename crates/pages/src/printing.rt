@@ -15,6 +15,7 @@ use listing_text::refused_line;
 use lists::list_nets;
 use page_turns::{Progress, take_turn, write_text};
 use refusals::{Outcome, Refusal};
+use std::io::{Read, Write};
 use tracker::power_up;
 
 // The largest page has 8,193 lines of 71 bytes, and a refusal may follow it as one line more.
@@ -26,7 +27,10 @@ const MOST_TURNS: u64 = 140737488355328;
 
 // The OUTs are listed, and the state powers up; then turns are made until none follows. Where one would follow the most turns, that counts
 // as a failure.
-fn take_input(
+fn take_input<I: Read, W: Write>(
+    rt: &impl Eprint,
+    input: &mut I,
+    output: &mut W,
     image: &[u8],
     inputs: usize,
     outs: &mut [u16],
@@ -51,7 +55,9 @@ fn take_input(
     };
     let mut turns: u64 = 0;
     while p.open & !p.failed & (turns < MOST_TURNS) {
-        let next = take_turn(image, outs, inputs, state, outputs, rows, p, text);
+        let next = take_turn(
+            rt, input, output, image, outs, inputs, state, outputs, rows, p, text,
+        );
         p = next;
         turns += 1;
     }
@@ -65,7 +71,14 @@ fn take_input(
 }
 
 // The pages of an image that is accepted. Without inputs there is no row, and nothing is printed.
-fn print_accepted(image: &[u8], z: Sizes, text: &mut [u8; MOST_TEXT]) -> Progress
+fn print_accepted<I: Read, W: Write>(
+    rt: &impl Eprint,
+    input: &mut I,
+    output: &mut W,
+    image: &[u8],
+    z: Sizes,
+    text: &mut [u8; MOST_TEXT],
+) -> Progress
     requires { (check_refusal image.now ≡ none) × (z ≡ sizes_of image.now) }
     ensures { result.failed ≡ false → PagesPrinted image.now text.new result.used }
 {
@@ -86,6 +99,9 @@ fn print_accepted(image: &[u8], z: Sizes, text: &mut [u8; MOST_TEXT]) -> Progres
     let st = state_length(z);
     let n = 64 * z.inputs;
     take_input(
+        rt,
+        input,
+        output,
         image,
         z.inputs,
         &mut outs[..o],
@@ -97,11 +113,16 @@ fn print_accepted(image: &[u8], z: Sizes, text: &mut [u8; MOST_TEXT]) -> Progres
 }
 
 // The refusal of an image, which is all that is printed.
-fn print_refused(text: &mut [u8; MOST_TEXT], refusal: Refusal) -> Progress
+fn print_refused<W: Write>(
+    rt: &impl Eprint,
+    output: &mut W,
+    text: &mut [u8; MOST_TEXT],
+    refusal: Refusal,
+) -> Progress
     ensures { take result.used text.new ≡ refused_line refusal }
 {
     let used = refused_line(text, 0, refusal);
-    let failed = write_text(text, used);
+    let failed = write_text(rt, output, text, used);
     Progress {
         cycles: 0,
         read: 0,
@@ -112,15 +133,21 @@ fn print_refused(text: &mut [u8; MOST_TEXT], refusal: Refusal) -> Progress
 }
 
 // The pages of an image. The text is lent for what one turn prints, until it is written out.
-pub fn print(image: &[u8], text: &mut [u8; MOST_TEXT]) -> Progress
+pub fn print<I: Read, W: Write>(
+    rt: &impl Eprint,
+    input: &mut I,
+    output: &mut W,
+    image: &[u8],
+    text: &mut [u8; MOST_TEXT],
+) -> Progress
     ensures { result.failed ≡ false → PagesPrinted image.now text.new result.used }
 {
     let o = check(image);
     match o {
         Outcome::Done => {
             let z = sizes_of(image);
-            print_accepted(image, z, text)
+            print_accepted(rt, input, output, image, z, text)
         }
-        Outcome::Refused(r) => print_refused(text, r),
+        Outcome::Refused(r) => print_refused(rt, output, text, r),
     }
 }

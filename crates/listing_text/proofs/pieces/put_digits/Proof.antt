@@ -7,18 +7,18 @@ use Rattle.listing_text.specs.Lines.{digit}
 use Rattle.listing_text.proofs.pieces.put_digits.Statement.{statement}
 use Rattle.listing_text.proofs.pieces.put_digits.Tie as tie
 
-abbrev invariant-loop : tie.invariant-loop
-invariant-loop buffer₀ at bytes i₀ buffer i = Putting digit bytes buffer₀ at buffer i
+abbrev invariant-loop-i : tie.invariant-loop-i
+invariant-loop-i buffer₀ at bytes i₀ buffer i = Putting digit bytes buffer₀ at buffer i
 
-abbrev decreases-loop : tie.decreases-loop
-decreases-loop buffer₀ at bytes i₀ buffer i = length bytes - i
+abbrev decreases-loop-i : tie.decreases-loop-i
+decreases-loop-i buffer₀ at bytes i₀ buffer i = length bytes - i
 
-pub put-digits-spec : {M : Type 1} → statement M
-put-digits-spec =
+pub put_digits_spec : {M : Type 1} → statement M
+put_digits_spec =
     tie.close
     (tie.spec
-    invariant-loop
-    decreases-loop
+    invariant-loop-i
+    decreases-loop-i
     (λ c. put_begins c.requires)
     (λ c. search rules)
     (λ c. search rules)
@@ -26,7 +26,7 @@ put-digits-spec =
     (λ c. search rules)
     (λ c. search rules)
     (λ c. search rules)
-    (λ c. put_goes_on c.before.loop-test.true c.before.before.loop.invariant)
+    (λ c. put_goes_on c.before.loop-i-test.true c.before.before.loop-i.invariant)
     (λ c. search rules)
-    (λ c. c.before.loop.invariant.long)
-    (λ c. put_ends c.loop-test.false c.before.loop.invariant))
+    (λ c. c.before.loop-i.invariant.long)
+    (λ c. put_ends c.loop-i-test.false c.before.loop-i.invariant))

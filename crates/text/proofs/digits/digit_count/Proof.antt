@@ -8,5 +8,5 @@ use Rattle.text.proofs.digits.digit_count.Tie as tie
 returns : tie.Need-returns
 returns c = let given = c.digits_of.ensures in given.0.1 ∙ ap length given.1
 
-pub digit-count-spec : {M : Type 1} → statement M
-digit-count-spec = tie.close (tie.spec (λ c κs. search rules) returns)
+pub digit_count_spec : {M : Type 1} → statement M
+digit_count_spec = tie.close (tie.spec (λ c κs. search rules) returns)

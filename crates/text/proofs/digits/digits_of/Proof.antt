@@ -8,7 +8,7 @@ use Rattle.text.proofs.digits.digits_of.Tie as tie
 returns : tie.Need-returns
 returns c =
     let given = c.decimal.ensures in
-    (given.0, given.1.1 ∙ decimal_is _ _ c.before.before.ranges.n.fits given.1.0)
+    (given.0, given.1.1.0 ∙ decimal_is _ _ c.before.before.ranges.n.fits given.1.0)
 
-pub digits-of-spec : {M : Type 1} → statement M
-digits-of-spec = tie.close (tie.spec (λ c κs. search rules) returns)
+pub digits_of_spec : {M : Type 1} → statement M
+digits_of_spec = tie.close (tie.spec (λ c κs. search rules) returns)

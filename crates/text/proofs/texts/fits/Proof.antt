@@ -20,11 +20,11 @@ by_difference at bytes n h = by (leb bytes (n - at)) refl
 too_far : (at bytes n : ℕ) → n < at → leb at n ≡ leb (at + bytes) n
 too_far at bytes n h = lt-leb at n h ∙ sym (lt-leb (at + bytes) n (omega arith))
 
-returns : tie.Need-returns
-returns c = by_difference _ _ _ c.if1.true
+returns : tie.Need-returns-then-at-buffer
+returns c = by_difference _ _ _ c.if-at-buffer.true
 
-returns-2 : tie.Need-returns-2
-returns-2 c = too_far _ _ _ c.if1.false
+returns-2 : tie.Need-returns-else-at-buffer
+returns-2 c = too_far _ _ _ c.if-at-buffer.false
 
-pub fits-spec : {M : Type 1} → statement M
-fits-spec = tie.close (tie.spec (λ c. search rules) returns returns-2)
+pub fits_spec : {M : Type 1} → statement M
+fits_spec = tie.close (tie.spec (λ c. search rules) returns returns-2)

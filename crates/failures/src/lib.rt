@@ -1,0 +1,28 @@
+// What is said on standard error of a read or a write that failed.
+#![tactic(auto)]
+
+use std::io::{Cursor, Error, Write};
+
+// The room for the text of an error; what does not fit is left out.
+const MOST_TEXT: usize = 256;
+
+// The reason that the text of an error begins with. The number that the system has for it stands behind that, in brackets.
+fn reason_of(text: &[u8]) -> &str {
+    let Ok(whole) = str::from_utf8(text) else {
+        return "";
+    };
+    match whole.split_once(" (os error ") {
+        Some((reason, _)) => reason,
+        None => whole,
+    }
+}
+
+// Says what failed, as the caller names it, and the system's reason, in a line.
+pub fn say_failure(rt: &impl Eprint, what: &str, error: &Error) {
+    let mut text = Cursor::new([0u8; MOST_TEXT]);
+    let _ = write!(text, "{error}");
+    let length = (text.position() as usize).min(MOST_TEXT);
+    let bytes = text.into_inner();
+    let reason = reason_of(&bytes[..length]);
+    let _ = eprintln!(rt; "{what}: {reason}");
+}
