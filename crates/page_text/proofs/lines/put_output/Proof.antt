@@ -32,96 +32,94 @@ module _ (start : tie.Start) where
 
   -- a net's number has at most five digits
   five : length (decimal start.args.net) ≤ 5
-  five = decimal_few 5 start.args.net (lit≤ tt) (omega (arith, start.fits.net.fits))
+  five = decimal_few 5 start.args.net (lit≤ tt) (omega (arith, start.ranges.net.fits))
 
   cycles : length shown ≡ start.args.n
   cycles = output_length start.args.o start.args.j start.args.n start.args.bytes.now
 
-module _ (c : tie.After-put-blanks) where
+module _ (c : tie.After-put_blanks-p) where
   abbrev start : tie.Start
   start = c.before.before.before.before.before
 
-  after-blanks : LeftAt start c.put-blanks.new.0 c.put-blanks.result (drop 1 (parts start))
-  after-blanks = let count = c.before.digit-count.ensures in left_then (all_left start) (rw count at c.put-blanks.ensures.0) (rw count at c.put-blanks.ensures.1)
+  after-blanks : LeftAt start c.put_blanks-p.new.page c.put_blanks-p.result (drop 1 (parts start))
+  after-blanks = let count = c.before.digit_count.ensures in left_then (all_left start) (rw count at c.put_blanks-p.ensures.0) (rw count at c.put_blanks-p.ensures.1)
 
-module _ (c : tie.After-put-number) where
-  abbrev first : tie.After-put-blanks
+module _ (c : tie.After-put_number-q) where
+  abbrev first : tie.After-put_blanks-p
   first = c.before.before.before.before
 
-  after-number : LeftAt (start first) c.put-number.new.0 c.put-number.result (drop 2 (parts (start first)))
-  after-number = left_then (after-blanks first) c.put-number.ensures.0 c.put-number.ensures.1
+  after-number : LeftAt (start first) c.put_number-q.new.buffer c.put_number-q.result (drop 2 (parts (start first)))
+  after-number = left_then (after-blanks first) c.put_number-q.ensures.0 c.put_number-q.ensures.1
 
-module _ (c : tie.After-put-text) where
-  abbrev second : tie.After-put-number
-  second = c.before.before.before.before.before
+module _ (c : tie.After-put_text-r) where
+  abbrev second : tie.After-put_number-q
+  second = c.before.before.before.before.before.before
 
-  after-space : LeftAt (start (first second)) c.put-text.new.0 c.put-text.result (drop 3 (parts (start (first second))))
-  after-space = left_then (after-number second) c.put-text.ensures.0 c.put-text.ensures.1
+  after-space : LeftAt (start (first second)) c.put_text-r.new.buffer c.put_text-r.result (drop 3 (parts (start (first second))))
+  after-space = left_then (after-number second) c.put_text-r.ensures.0 c.put_text-r.ensures.1
 
-module _ (c : tie.After-put-signs) where
-  abbrev third : tie.After-put-text
+module _ (c : tie.After-put_signs-s) where
+  abbrev third : tie.After-put_text-r
   third = c.before.before.before.before
 
   abbrev begun : tie.Start
   begun = start (first (second third))
 
-  after-signs : LeftAt begun c.put-signs.new.0 c.put-signs.result (blanks (64 - begun.args.n) ∷ newline ∷ [])
-  after-signs = rw (cycles begun) at (left_then (after-space third) c.put-signs.ensures.0 c.put-signs.ensures.1)
+  after-signs : LeftAt begun c.put_signs-s.new.page c.put_signs-s.result (blanks (64 - begun.args.n) ∷ newline ∷ [])
+  after-signs = rw (cycles begun) at (left_then (after-space third) c.put_signs-s.ensures.0 c.put_signs-s.ensures.1)
 
-module _ (c : tie.After-put-blanks2) where
-  abbrev fourth : tie.After-put-signs
+module _ (c : tie.After-put_blanks-t) where
+  abbrev fourth : tie.After-put_signs-s
   fourth = c.before.before.before.before
 
-  after-all : LeftAt (begun fourth) c.put-blanks2.new.0 c.put-blanks2.result (newline ∷ [])
-  after-all = left_then (after-signs fourth) c.put-blanks2.ensures.0 c.put-blanks2.ensures.1
+  after-all : LeftAt (begun fourth) c.put_blanks-t.new.page c.put_blanks-t.result (newline ∷ [])
+  after-all = left_then (after-signs fourth) c.put_blanks-t.ensures.0 c.put_blanks-t.ensures.1
 
-put-blanks-requires : tie.Need-put-blanks-requires
+put-blanks-requires : tie.Need-put_blanks-p-requires
 put-blanks-requires c κs =
     let start = c.before.before.before.before in
     let room = left_room (all_left start) start.requires.1 in
-    (omega arith, rw c.digit-count.ensures (rw length-replicate at room))
+    (omega arith, rw c.digit_count.ensures (rw length-replicate at room))
 
-put-number-requires : tie.Need-put-number-requires
+put-number-requires : tie.Need-put_number-q-requires
 put-number-requires c κs = let blanks = c.before.before.before in left_room (after-blanks blanks) (start blanks).requires.1
 
-put-text-requires : tie.Need-put-text-requires
-put-text-requires c κs = let number = c.before.before.before.before in left_room (after-number number) (start (first number)).pre.1
+put-text-requires : tie.Need-put_text-r-requires
+put-text-requires c κs = let number = c.before.before.before.before in left_room (after-number number.before) (start (first number.before)).requires.1
 
-put-signs-requires : tie.Need-put-signs-requires
+put-signs-requires : tie.Need-put_signs-s-requires
 put-signs-requires c κs =
     let text = c.before.before.before in
     let begun = start (first (second text)) in
-    let room = left_room (after-space text) begun.pre.1 in
-    (begun.pre.0.0, begun.pre.0.1, begun.pre.0.2, begun.pre.0.3, rw (length-map, cycles begun) at room)
+    let room = left_room (after-space text) begun.requires.1 in
+    (begun.requires.0.0, begun.requires.0.1, begun.requires.0.2, begun.requires.0.3, rw (length-map, cycles begun) at room)
 
-put-blanks-requires-2 : tie.Need-put-blanks-requires-2
+put-blanks-requires-2 : tie.Need-put_blanks-t-requires
 put-blanks-requires-2 c κs =
     let signs = c.before.before.before in
     let room = left_room (after-signs signs) (begun signs).requires.1 in
     (omega arith, rw length-replicate at room)
 
-put-text-requires-2 : tie.Need-put-text-requires-2
-put-text-requires-2 c κs = let all = c.before.before.before.before in left_room (after-all all) (begun (fourth all)).pre.1
+put-text-requires-2 : tie.Need-put_text-requires
+put-text-requires-2 c κs = let all = c.before.before.before.before in left_room (after-all all.before) (begun (fourth all.before)).requires.1
 
 returns : tie.Need-returns
 returns c =
     let last = c.before.before in
-    left_none (left_then (after-all last.before.before.before.before.before) last.put-text2.ensures.0 last.put-text2.ensures.1)
+    left_none (left_then (after-all last.before.before.before.before.before.before) last.put_text.ensures.0 last.put_text.ensures.1)
 
-pub put-output-spec : {M : Type 1} → statement M
-put-output-spec =
+pub put_output_spec : {M : Type 1} → statement M
+put_output_spec =
     tie.close
     (tie.spec
     (λ c κs. search rules)
-    (λ c. omega (arith, c.digit-count.ensures, five c.before.before.before.before))
+    (λ c. omega (arith, c.digit_count.ensures, five c.before.before.before.before))
     put-blanks-requires
     put-number-requires
-    (λ c. search rules)
     put-text-requires
     put-signs-requires
-    (λ c. (begun c.before.before.before).pre.0.2)
+    (λ c. (begun c.before.before.before).requires.0.2)
     put-blanks-requires-2
-    (λ c. search rules)
     put-text-requires-2
     (λ c. search rules)
     returns)

@@ -3,5 +3,5 @@ use Rattle.page_text.proofs.Signs.{sign_of}
 use Rattle.page_text.proofs.pieces.signs.Statement.{statement}
 use Rattle.page_text.proofs.pieces.signs.Tie as tie
 
-pub signs-spec : {M : Type 1} → statement M
-signs-spec = tie.close (tie.spec (λ c. sign_of))
+pub signs_spec : {M : Type 1} → statement M
+signs_spec = tie.close (tie.spec (λ c. sign_of))

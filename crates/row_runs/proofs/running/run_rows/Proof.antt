@@ -10,46 +10,46 @@ use Rattle.row_runs.proofs.running.run_rows.Statement.{statement}
 use Rattle.row_runs.proofs.running.run_rows.Tie as tie
 
 -- the run is made
-module _ (c : tie.After-run) where
+module _ (c : tie.After-run-a) where
   abbrev start : tie.Start
   start = c.before.before.before.before.before.before.before
 
-returns : tie.Need-returns
+returns : tie.Need-returns-in-Done
 returns c =
-    let ran = c.before.before.before.before.before.before in
-    all_run (start ran).requires ran.run.ensures c.enum_told.given.1
+    let ran = c.before.before.before.before.before in
+    all_run (start ran).requires ran.run-a.ensures c.in-Done.is
 
 -- a byte is bad
-module _ (c : tie.After-struct-known) where
-  abbrev ran : tie.After-run
-  ran = c.before.before.before.before.before.before.before.before
+module _ (c : tie.After-struct_known-1) where
+  abbrev ran : tie.After-run-a
+  ran = c.before.before.before.before.before.before
 
   abbrev s : tie.Start
   s = start ran
 
-  bytes : c.before.before.a.given.0.0.place / s.args.inputs * s.args.inputs ≤ c.before.before.a.given.0.0.place
-  bytes = good_bytes s.pre ran.run.ensures c.before.before.a.given.1
+  bytes : c.in-Refused.r.place / s.args.inputs * s.args.inputs ≤ c.in-Refused.r.place
+  bytes = good_bytes s.requires ran.run-a.ensures c.in-Refused.is
 
-  rows : c.before.before.a.given.0.0.place / s.args.inputs * s.args.inputs ≤ length s.args.rows.now
-  rows = good_there s.pre ran.run.ensures c.before.before.a.given.1
+  rows : c.in-Refused.r.place / s.args.inputs * s.args.inputs ≤ length s.args.rows.now
+  rows = good_there s.requires ran.run-a.ensures c.in-Refused.is
 
-  outputs : c.before.before.a.given.0.0.place / s.args.inputs * s.args.each ≤ length ran.run.last.1.1.1.1.0
-  outputs = good_room s.pre ran.run.ensures c.before.before.a.given.1
+  outputs : c.in-Refused.r.place / s.args.inputs * s.args.each ≤ length ran.run-a.new.outputs
+  outputs = good_room s.requires ran.run-a.ensures c.in-Refused.is
 
-mul-end : tie.Need-overflow-mul-end
-mul-end c = record { fits = omega (arith, rows c, (s c).well-formed.1.1.1.1.1.0) }
+mul-end : tie.Need-overflow_mul-end
+mul-end c = record { fits = omega (arith, rows c, (s c).well_formed.1.1.1.1.1.0) }
 
-mul-filled : tie.Need-overflow-mul-filled
-mul-filled c = record { fits = omega (arith, outputs c, (ran c).run.auto.1.1.1.1.0, (s c).well-formed.1.1.1.1.1.1.0) }
+mul-filled : tie.Need-overflow_mul-filled
+mul-filled c = record { fits = omega (arith, outputs c, (ran c).run-a.auto.outputs, (s c).well_formed.1.1.1.1.1.1.0) }
 
-returns-2 : tie.Need-returns-2
+returns-2 : tie.Need-returns-in-Refused
 returns-2 c =
     let again = c.before.before.before.before.before.before in
-    let bad = again.before.before.before.before in
-    good_run (s bad).requires (ran bad).run.ensures bad.before.before.a.given.1 again.run2.result again.run2.ensures c.refused.result c.refused.ensures
+    let bad = again.before.before.before in
+    good_run (s bad).requires (ran bad).run-a.ensures bad.in-Refused.is again.run.result again.run.ensures c.refused-outcome.result c.refused-outcome.ensures
 
-pub run-rows-spec : {M : Type 1} → statement M
-run-rows-spec =
+pub run_rows_spec : {M : Type 1} → statement M
+run_rows_spec =
     tie.close
     (tie.spec
     (λ c κs. search rules)
@@ -58,11 +58,11 @@ run-rows-spec =
     (λ c. search rules)
     mul-end
     mul-filled
-    (λ c. sym (length-take-le _ _ (rows c.before.before)))
-    (λ c. outputs c.before.before)
-    (λ c. sym (length-take-le _ _ (outputs c.before.before.before)))
+    (λ c. sym (length-take-le _ _ (rows c.before)))
+    (λ c. outputs c.before)
+    (λ c. sym (length-take-le _ _ (outputs c.before.before)))
     (λ c κs. search rules)
-    (λ c. bytes c.before.before.before.before.before.before.before.before.before)
+    (λ c. bytes c.before.before.before.before.before.before.before.before)
     (λ c κs. search rules)
     (λ c. search rules)
     (λ c. search rules)
