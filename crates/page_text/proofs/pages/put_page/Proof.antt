@@ -55,7 +55,7 @@ module _ (c : tie.In-loop-j invariant-loop-j decreases-loop-j) where
   abbrev outs : List ℕ
   outs = args.args.outs.now
 
-  line_left : Left headed.put_heading-p.last.0 headed.put_heading-p.result (lines headed) at.loop-j.page at.loop-j.p
+  line_left : Left headed.put_heading-p.new.page headed.put_heading-p.result (lines headed) at.loop-j.page at.loop-j.p
       (output_line (get_or outs at.loop-j.j 0) (output_bytes (length outs) at.loop-j.j args.args.n args.args.bytes.now)
       ∷ output_lines (length outs) (at.loop-j.j + 1) args.args.n (drop (at.loop-j.j + 1) outs) args.args.bytes.now ∷ [])
   line_left =
