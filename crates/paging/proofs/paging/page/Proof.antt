@@ -13,40 +13,34 @@ use Rattle.paging.proofs.PageCalls.{page_none, page_accepted, page_refused, outs
 use Rattle.paging.proofs.paging.page.Statement.{statement}
 use Rattle.paging.proofs.paging.page.Tie as tie
 
-returns : tie.Need-returns
+returns : tie.Need-returns-in-Refused
 returns c =
-    let known = c.before in
-    let args = known.before.before.before.before.before.before.before.args in
-    sym (page_refused args.image.now args.k args.outputs.now args.page.now _ (sym known.before.before.page-refusal.ensures ∙ ap refusal_in known.o.given.1))
+    let args = c.args in
+    sym (page_refused args.image.now args.k args.outputs.now args.page.now _ (sym c.page_refusal-o.ensures ∙ ap refusal_in c.in-Refused.is))
 
 -- past the refusals
-module _ (c : tie.After-enum-told) where
-  abbrev start : tie.Start
-  start = c.before.before.before.before.before.before.before
+module _ (c : tie.In_default) where
 
-  accepted : page_refusal start.args.image.now start.args.k start.args.outputs.now start.args.page.now ≡ none
-  accepted = sym c.before.before.page-refusal.ensures ∙ ap refusal_in c.enum_told.given.1
+  accepted : page_refusal c.args.image.now c.args.k c.args.outputs.now c.args.page.now ≡ none
+  accepted = sym c.page_refusal-o.ensures ∙ ap refusal_in c.in_default.is
 
-  image : Checked start.args.image.now
-  image = (check_none _).0 ((page_none start.args.image.now start.args.k start.args.outputs.now start.args.page.now).0 accepted).0
+  image : Checked c.args.image.now
+  image = (check_none _).0 ((page_none c.args.image.now c.args.k c.args.outputs.now c.args.page.now).0 accepted).0
 
-few : (c : tie.After-sizes-of) → c.sizes-of.result.outputs ≤ 8192
-few c = rw c.sizes-of.ensures (outs_few (image c.before))
+few : (c : tie.After-sizes_of-n) → c.sizes_of-n.result.outputs ≤ 8192
+few c = rw c.sizes_of-n.ensures (outs_few (image c.before))
 
-put-listed-requires : tie.Need-put-listed-requires
+put-listed-requires : tie.Need-put_listed-requires
 put-listed-requires c κs =
-    let sized = c.before.before in
-    (accepted sized.before, front_length 8192 sized.sizes-of.result.outputs (few sized) ∙ ap (λ (z : Sizes). z.outputs) sized.sizes-of.ensures)
+    (accepted c.before.before.before, front_length 8192 c.sizes_of-n.result.outputs (few c.before.before) ∙ ap (λ (z : Sizes). z.outputs) c.sizes_of-n.ensures)
 
-returns-2 : tie.Need-returns-2
+returns-2 : tie.Need-returns
 returns-2 c =
-    let put = c.before.before.before in
-    let told = put.before.before.before.before in
-    let args = (start told).args in
-    rw put.put-listed.ensures (sym (page_accepted args.image.now args.k args.outputs.now args.page.now (accepted told)))
+    let args = c.args in
+    rw c.put_listed.ensures (sym (page_accepted args.image.now args.k args.outputs.now args.page.now (accepted c.before.before.before.before.before.before.before)))
 
-pub page-spec : {M : Type 1} → statement M
-page-spec =
+pub page_spec : {M : Type 1} → statement M
+page_spec =
     tie.close
     (tie.spec
     (λ c κs. search rules)
@@ -56,7 +50,7 @@ page-spec =
     (λ c. search rules)
     (λ c κs. omega (arith, (image c).exact))
     few
-    (λ c. sym (front_length 8192 c.before.sizes-of.result.outputs (few c.before)))
+    (λ c. sym (front_length 8192 c.sizes_of-n.result.outputs (few c.before)))
     put-listed-requires
     (λ c. search rules)
     returns-2)

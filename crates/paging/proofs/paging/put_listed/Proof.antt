@@ -24,26 +24,22 @@ module _ (c : tie.Start) where
   image : Checked c.args.image.now
   image = (check_none _).0 ready.0
 
-list-nets-requires : tie.Need-list-nets-requires
-list-nets-requires c κs = let start = c.before.before.before.before.before in ((ready start).0, start.requires.1 ∙ (image start).outputs)
+list-nets-requires : tie.Need-list_nets-requires
+list-nets-requires c κs = ((ready c.before.before.before.before.before).0, c.requires.1 ∙ (image c.before.before.before.before.before).outputs)
 
 -- the list has the net numbers of the OUTs
-listed : (c : tie.After-list-nets) → length c.list-nets.new.1.1.0 ≡ (sizes_of c.before.before.before.before.before.before.args.image.now).outputs
-listed c = ap length c.list-nets.ensures ∙ outs_length (image c.before.before.before.before.before.before)
+listed : (c : tie.After-list_nets) → length c.list_nets.new.list ≡ (sizes_of c.args.image.now).outputs
+listed c = ap length c.list_nets.ensures ∙ outs_length (image c.before.before.before.before.before.before)
 
-put-pages-requires : tie.Need-put-pages-requires
+put-pages-requires : tie.Need-put_pages-requires
 put-pages-requires c κs =
-    let listed_at = c.before.before.before.before in
-    let start = listed_at.before.before.before.before.before.before in
-    let long = listed listed_at in
-    ((omega (arith, long, outs_few (image start)), (ready start).1, rw long (ready start).3), rw long (ready start).4)
+    let long = listed c.before.before.before in
+    ((omega (arith, long, outs_few (image c.before.before.before.before.before.before.before.before.before)), (ready c.before.before.before.before.before.before.before.before.before).1, rw long (ready c.before.before.before.before.before.before.before.before.before).3), rw long (ready c.before.before.before.before.before.before.before.before.before).4)
 
 returns : tie.Need-returns
 unfolding pages_of
 returns c =
-    let put = c.before.before in
-    let listed_at = put.before.before.before.before.before in
-    rw listed_at.list-nets.ensures at put.put-pages.ensures
+    rw c.list_nets.ensures at c.put_pages.ensures
 
-pub put-listed-spec : {M : Type 1} → statement M
-put-listed-spec = tie.close (tie.spec list-nets-requires put-pages-requires (λ c. search rules) (λ c. search rules) returns)
+pub put_listed_spec : {M : Type 1} → statement M
+put_listed_spec = tie.close (tie.spec list-nets-requires put-pages-requires (λ c. search rules) (λ c. search rules) returns)

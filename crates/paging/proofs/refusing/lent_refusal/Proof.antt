@@ -8,29 +8,28 @@ use Rattle.refusals.proofs.Refusals.{plain_bad}
 use Rattle.paging.proofs.refusing.lent_refusal.Statement.{statement}
 use Rattle.paging.proofs.refusing.lent_refusal.Tie as tie
 
-returns : tie.Need-returns
+returns : tie.Need-returns-in-Refused
 returns c =
-    let known = c.before in
-    rw (sym (plain_bad 13 0 _) ∙ sym known.before.before.byte-refusal.ensures ∙ ap refusal_in known.o.given.1)
+    rw (sym (plain_bad 13 0 _) ∙ sym c.byte_refusal-o.ensures ∙ ap refusal_in c.in-Refused.is)
 
 -- past the bytes
-good : (c : tie.After-enum-told) → bad_byte plain_bytes.bad 13 0 c.before.before.before.before.before.args.outputs.now ≡ none
-good c = sym (plain_bad 13 0 _) ∙ sym c.before.before.byte-refusal.ensures ∙ ap refusal_in c.enum_told.given.1
+good : (c : tie.In_default) → bad_byte plain_bytes.bad 13 0 c.args.outputs.now ≡ none
+good c = sym (plain_bad 13 0 _) ∙ sym c.byte_refusal-o.ensures ∙ ap refusal_in c.in_default.is
 
-returns-2 : tie.Need-returns-2
+returns-2 : tie.Need-returns-then-outputs-filed
 unfolding bad_length
-returns-2 c = rw (good c.before.before, ne_eqb _ _ c.before.if1.true) c.refused.ensures
+returns-2 c = rw (good c.before.before, ne_eqb _ _ c.if-outputs-filed.true) c.refused.ensures
 
-returns-3 : tie.Need-returns-3
+returns-3 : tie.Need-returns-then-page-length
 unfolding bad_length
-returns-3 c = rw (good c.before.before.before, eq-eqb _ _ c.before.before.if1.false, ne_eqb _ _ c.before.if2.true) c.refused2.ensures
+returns-3 c = rw (good c.before.before.before, eq-eqb _ _ c.if-outputs-filed.false, ne_eqb _ _ c.if-page-length.true) c.refused-then-page-length.ensures
 
-returns-4 : tie.Need-returns-4
+returns-4 : tie.Need-returns
 unfolding bad_length
-returns-4 c = rw (good c.before.before, eq-eqb _ _ c.before.if1.false, eq-eqb _ _ c.if2.false)
+returns-4 c = rw (good c.before.before, eq-eqb _ _ c.if-outputs-filed.false, eq-eqb _ _ c.if-page-length.false)
 
-pub lent-refusal-spec : {M : Type 1} → statement M
-lent-refusal-spec =
+pub lent_refusal_spec : {M : Type 1} → statement M
+lent_refusal_spec =
     tie.close
     (tie.spec
     (λ c κs. search rules)

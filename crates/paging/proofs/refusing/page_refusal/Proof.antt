@@ -14,43 +14,40 @@ use Rattle.paging.proofs.PageCalls.{outs_few}
 use Rattle.paging.proofs.refusing.page_refusal.Statement.{statement}
 use Rattle.paging.proofs.refusing.page_refusal.Tie as tie
 
-returns : tie.Need-returns
+returns : tie.Need-returns-in-Refused
 unfolding page_refusal
 returns c =
-    let known = c.before in
-    rw (sym known.before.before.check.ensures ∙ ap refusal_in known.o.given.1)
+    rw (sym c.check-o.ensures ∙ ap refusal_in c.in-Refused.is)
 
 -- past checking
-accepted : (c : tie.After-enum-told) → check_refusal c.before.before.before.before.before.before.args.image.now ≡ none
-accepted c = sym c.before.before.check.ensures ∙ ap refusal_in c.enum_told.given.1
+accepted : (c : tie.In_default) → check_refusal c.args.image.now ≡ none
+accepted c = sym c.check-o.ensures ∙ ap refusal_in c.in_default.is
 
 -- the number of cycles, as it was tested
-too_many : (c : tie.Then1) → 4096 < c.before.before.before.before.before.before.before.args.k
-too_many c = omega (arith, c.if1.true)
+too_many : (c : tie.Then-k-gt4096) → 4096 < c.args.k
+too_many c = omega (arith, c.if-k-gt4096.true)
 
-few : (c : tie.Else1) → c.before.before.before.before.before.before.before.args.k ≤ 4096
-few c = omega (arith, c.if1.false)
+few : (c : tie.Else-k-gt4096) → c.args.k ≤ 4096
+few c = omega (arith, c.if-k-gt4096.false)
 
-returns-2 : tie.Need-returns-2
+returns-2 : tie.Need-returns-then-k-gt4096
 unfolding page_refusal
 returns-2 c = rw (accepted c.before.before, lt-ltb 4096 _ (too_many c.before)) c.refused.ensures
 
-sizes-of-requires : tie.Need-sizes-of-requires
+sizes-of-requires : tie.Need-sizes_of-z-requires
 sizes-of-requires c κs = let image = (check_none _).0 (accepted c.before) in omega (arith, image.exact)
 
-few-outputs : (c : tie.After-sizes-of) → c.sizes-of.result.outputs ≤ 8192
-few-outputs c = rw c.sizes-of.ensures (outs_few ((check_none _).0 (accepted c.before.before)))
+few-outputs : (c : tie.After-sizes_of-z) → c.sizes_of-z.result.outputs ≤ 8192
+few-outputs c = rw c.sizes_of-z.ensures (outs_few ((check_none _).0 (accepted c.before.before)))
 
-returns-3 : tie.Need-returns-3
+returns-3 : tie.Need-returns
 unfolding page_refusal
 returns-3 c =
-    let long = c.before in
-    let sized = long.before.before in
-    rw (accepted sized.before.before, le-ltb 4096 _ (few sized.before))
-    (rw (long.pages_length_lem.ensures, sized.sizes-of.ensures) at c.lent-refusal.ensures)
+    rw (accepted c.before.before.before.before.before, le-ltb 4096 _ (few c.before.before.before.before))
+    (rw (c.pages_length.ensures, c.sizes_of-z.ensures) at c.lent_refusal.ensures)
 
-pub page-refusal-spec : {M : Type 1} → statement M
-page-refusal-spec =
+pub page_refusal_spec : {M : Type 1} → statement M
+page_refusal_spec =
     tie.close
     (tie.spec
     (λ c κs. search rules)
