@@ -100,7 +100,7 @@ leaves s st a c = either_way (refusal_of s st c) (accepted_leaves s st c) (λ r 
 never_20 : (s st : List ℕ) → CountStands s st → (cs : List Call) → NoneDraws20 (history s st cs)
 unfolding history
 never_20 s st a [] = nil
-never_20 s st a (c ∷ cs) = cons (not_drawn s st (right a) c) (never_20 s _ (leaves s st a c) cs)
+never_20 s st a (c ∷ cs) = cons (not_drawn s st (right a) c) (never_20 s (call_result s st c).state (leaves s st a c) cs)
 
 power_up_leaves : (s a : List ℕ) → (power_up_of s a).refusal ≡ none → CountStands s (power_up_of s a).state
 power_up_leaves s a h = let p = powered s a h in rw (powered_up_lem s a p.0 p.1) (stands (counted_state (starts_registers p.0)))

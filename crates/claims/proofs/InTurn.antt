@@ -36,27 +36,27 @@ module _ {A : Type 0} (d : A) where
   pub none_drawn : {f : ℕ → A → Option Refusal} {chain : ℕ → List A → Option Refusal} → InTurn f chain
       → (xs : List A) → chain 0 xs ≡ none → (j : ℕ) → j < length xs → f j (get_or xs j d) ≡ none
   none_drawn t [] h = λ j l. absurd (omega arith)
-  none_drawn {f} t (x ∷ xs) h = let e = simp then_none at (rw (t.next 0 x xs) at h) in front f x xs e.0 (none_drawn (later t) xs e.1)
+  none_drawn {f} {chain} t (x ∷ xs) h = let e = simp then_none at (rw (t.next 0 x xs) at h) in front f x xs e.0 (none_drawn {f = λ i. f (suc i)} {chain = λ i. chain (suc i)} (later t) xs e.1)
 
   pub none_given : {f : ℕ → A → Option Refusal} {chain : ℕ → List A → Option Refusal} → InTurn f chain
       → (xs : List A) → ((j : ℕ) → j < length xs → f j (get_or xs j d) ≡ none) → chain 0 xs ≡ none
   none_given t [] h = t.at_end 0
-  none_given t (x ∷ xs) h = rw (t.next 0 x xs) (rw (h 0 (omega arith)) (none_given (later t) xs (λ j l. h (suc j) (omega arith))))
+  none_given {f} {chain} t (x ∷ xs) h = rw (t.next 0 x xs) (rw (h 0 (omega arith)) (none_given {f = λ i. f (suc i)} {chain = λ i. chain (suc i)} (later t) xs (λ j l. h (suc j) (omega arith))))
 
   pub given_first : {f : ℕ → A → Option Refusal} {chain : ℕ → List A → Option Refusal} {r : Refusal} → InTurn f chain
       → (xs : List A) (j : ℕ) → FirstDrawn d f xs r j → chain 0 xs ≡ some r
   given_first t [] j w = absurd (omega (arith, w.below))
   given_first t (x ∷ xs) zero w = rw (t.next 0 x xs, w.here)
-  given_first t (x ∷ xs) (suc j) w =
+  given_first {f} {chain} t (x ∷ xs) (suc j) w =
       rw (t.next 0 x xs) (rw (w.before 0 (omega arith))
-      (given_first (later t) xs j (record { below = omega (arith, w.below); before = λ k l. w.before (suc k) (omega arith); here = w.here })))
+      (given_first {f = λ i. f (suc i)} {chain = λ i. chain (suc i)} (later t) xs j (record { below = omega (arith, w.below); before = λ k l. w.before (suc k) (omega arith); here = w.here })))
 
   pub first_given : {f : ℕ → A → Option Refusal} {chain : ℕ → List A → Option Refusal} {r : Refusal} → InTurn f chain
       → (xs : List A) → chain 0 xs ≡ some r → (j : ℕ) × FirstDrawn d f xs r j
   first_given t [] h = absurd (not_some (rw (t.at_end 0) at h))
-  first_given {f} t (x ∷ xs) h =
+  first_given {f} {chain} t (x ∷ xs) h =
       let e = rw (t.next 0 x xs) at h in
       either_way (f 0 x)
-      (λ n. let w = first_given (later t) xs (rw n at e) in
+      (λ n. let w = first_given {f = λ i. f (suc i)} {chain = λ i. chain (suc i)} (later t) xs (rw n at e) in
       (suc w.0, record { below = omega (arith, w.1.below); before = front f x xs n w.1.before; here = w.1.here }))
       (λ q s. (0, record { below = omega arith; before = λ k l. absurd (omega arith); here = s ∙ (rw s at e) }))

@@ -140,10 +140,13 @@ module _ (xs : List Net) where
   group_plain i {y} p =
       sym (group_pinned xs i y refl (value_plain p.a) (mark_plain p.a) (value_plain p.b) (mark_plain p.b) (value_plain p.c) (mark_plain p.c))
 
-  pub groups_plain : (i : ℕ) {ys : List Net} → AllPlain ys → groups_from xs i ys ≡ plain_groups xs i ys
+  plain_from : {ys : List Net} → AllPlain ys → (i : ℕ) → groups_from xs i ys ≡ plain_groups xs i ys
   unfolding groups_from plain_groups
-  groups_plain i Forall₂.nil = refl
-  groups_plain i (Forall₂.cons p ps) = rw (group_plain i p, groups_plain (suc i) ps)
+  plain_from Forall₂.nil i = refl
+  plain_from (Forall₂.cons p ps) i = rw (group_plain i p, plain_from ps (suc i))
+
+  pub groups_plain : (i : ℕ) {ys : List Net} → AllPlain ys → groups_from xs i ys ≡ plain_groups xs i ys
+  groups_plain i ps = plain_from ps i
 
 number_plain : {n : ℕ} → n ≤ 2 → n < 32768
 number_plain h = omega arith

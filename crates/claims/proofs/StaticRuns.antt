@@ -150,7 +150,7 @@ static_wakes s a a' l =
     record { refusal = rw (p, q); state = λ k. not_some (rw q at k); wakes = λ k st w. not_some (rw q at k) })
 
 -- LISTS OF RUNS
-all_sound : (s : List ℕ) {st st' : List ℕ} {rs : List RunPair} → CoversState st st' → AllCovered rs → SoundRuns s st st' rs
+all_sound : (s : List ℕ) {rs : List RunPair} {st st' : List ℕ} → CoversState st st' → AllCovered rs → SoundRuns s st st' rs
 all_sound s p no_more = nil
 all_sound s p (one_more {r} q l more) = let h = static_sound s _ _ r.k _ _ r.outputs r.outputs' p q l in cons h (all_sound s h.state more)
 

@@ -81,7 +81,7 @@ as_steps : {s : List ℕ} (c c' : Cycle) → length c.state ≡ (sizes_of s).reg
 unfolding as_step
 as_steps c c' l h = record { verdict = ap done h.verdict; nets = h.bytes; state = counted_agree l h.state }
 
-all_as_steps : {s st rows : List ℕ} (k : ℕ) → Ready s st (k * (sizes_of s).inputs) rows → {cs : List Cycle}
+all_as_steps : {s : List ℕ} (k : ℕ) {st rows : List ℕ} → Ready s st (k * (sizes_of s).inputs) rows → {cs : List Cycle}
     → Forall₂ (Related AgreeByte ◌≡◌) (cycles_of plain (nets_of s) (sizes_of s).inputs k rows st) cs
     → Forall₂ (SameCycle s) (map as_step (cycles_of plain (nets_of s) (sizes_of s).inputs k rows st)) (map as_step cs)
 unfolding cycles_of
@@ -134,12 +134,12 @@ pub place : (s : List ℕ) {st st' : List ℕ} {c d : Call} → AgreeStates s st
 place s {st} {c} q m = same_place s q m (refusal_of s st c) refl (sym (same_refusal s q m))
 
 -- from any two states that agree
-same_calls : (s : List ℕ) {st st' : List ℕ} {cs ds : List Call} → AgreeStates s st st' → Forall₂ Matched cs ds → SameCalls s st st' cs ds
+same_calls : (s : List ℕ) {cs ds : List Call} {st st' : List ℕ} → AgreeStates s st st' → Forall₂ Matched cs ds → SameCalls s st st' cs ds
 same_calls s q Forall₂.nil = SameCalls.nil
 same_calls s q (Forall₂.cons m ms) = let p = place s q m in SameCalls.cons (made s _ _) (made s _ _) p.call p.state (same_calls s p.state ms)
 
 same_cycles :
-    (s : List ℕ) {st st' : List ℕ} {cs ds : List Call} → AgreeStates s st st' → Forall₂ Matched cs ds
+    (s : List ℕ) {cs ds : List Call} {st st' : List ℕ} → AgreeStates s st st' → Forall₂ Matched cs ds
     → Forall₂ (SameCycle s) (cycles_in (history s st cs)) (cycles_in (history s st' ds))
 unfolding history cycles_in
 same_cycles s q Forall₂.nil = Forall₂.nil

@@ -60,9 +60,9 @@ matched_itself : (c : Call) → Matched c c
 matched_itself (Call.step row nets) = Matched.steps (agree_refl row) refl
 matched_itself (Call.run k rows outputs) = Matched.runs (agree_refl rows) refl
 
-same_accepted : (s : List ℕ) {st st' : List ℕ} (cs : List Call) → AgreeStates s st st' → accepted s st cs ≡ accepted s st' cs
+same_accepted : (s : List ℕ) (cs : List Call) {st st' : List ℕ} → AgreeStates s st st' → accepted s st cs ≡ accepted s st' cs
 same_accepted s [] q = unfold accepted in refl
-same_accepted s {st} {st'} (c ∷ cs) q =
+same_accepted s (c ∷ cs) {st} {st'} q =
     let e = same_refusal s q (matched_itself c) in
     either_way (refusal_of s st c)
     (λ h. rw (accepted_none s st c cs h, accepted_none s st' c cs (sym e ∙ h)) (ap (λ ds. c ∷ ds) (same_accepted s cs (place s q (matched_itself c)).state)))
