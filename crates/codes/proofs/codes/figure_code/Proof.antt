@@ -11,18 +11,16 @@ use Rattle.codes.proofs.codes.figure_code.Tie as tie
 abbrev code : Outcome → (figure : ℕ) → ℕ
 code o figure = answer_code (λ n. n) (figure_answer (refusal_in o) figure)
 
-returns : tie.Need-returns
-returns c = ap (λ o. code o c.before.before.args.figure) (sym c.enum_told.given.1)
+returns : tie.Need-returns-in-Done
+returns c = ap (λ o. code o c.args.figure) (sym c.in-Done.is)
 
-refusal-code-requires : tie.Need-refusal-code-requires
+refusal-code-requires : tie.Need-refusal_code-requires
 refusal-code-requires c κs =
-    let begin = c.before.before.before in
-    subst (λ o. code o begin.args.figure < 2 ^ 64) c.before.o.given.1 begin.requires
+    subst (λ o. code o c.args.figure < 2 ^ 64) c.in-Refused.is c.requires
 
-returns-2 : tie.Need-returns-2
+returns-2 : tie.Need-returns-in-Refused
 returns-2 c =
-    let known = c.before.before in
-    c.refusal-code.ensures ∙ ap (λ o. code o known.before.before.args.figure) (sym known.o.given.1)
+    c.refusal_code.ensures ∙ ap (λ o. code o c.args.figure) (sym c.in-Refused.is)
 
-pub figure-code-spec : {M : Type 1} → statement M
-figure-code-spec = tie.close (tie.spec (λ c. search rules) (λ c. search rules) refusal-code-requires returns returns-2)
+pub figure_code_spec : {M : Type 1} → statement M
+figure_code_spec = tie.close (tie.spec (λ c. search rules) (λ c. search rules) refusal-code-requires returns returns-2)

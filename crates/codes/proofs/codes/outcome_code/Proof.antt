@@ -7,11 +7,11 @@ use Rattle.codes.specs.Codes.{outcome_code}
 use Rattle.codes.proofs.codes.outcome_code.Statement.{statement}
 use Rattle.codes.proofs.codes.outcome_code.Tie as tie
 
-refusal-code-requires : tie.Need-refusal-code-requires
-refusal-code-requires c κs = subst (λ o. outcome_code (refusal_in o) < 2 ^ 64) c.before.o.given.1 c.before.before.before.requires
+refusal-code-requires : tie.Need-refusal_code-requires
+refusal-code-requires c κs = subst (λ o. outcome_code (refusal_in o) < 2 ^ 64) c.in-Refused.is c.before.requires
 
-returns-2 : tie.Need-returns-2
-returns-2 c = c.refusal-code.ensures ∙ ap (λ o. outcome_code (refusal_in o)) (sym c.before.before.o.given.1)
+returns-2 : tie.Need-returns-in-Refused
+returns-2 c = c.refusal_code.ensures ∙ ap (λ o. outcome_code (refusal_in o)) (sym c.before.in-Refused.is)
 
-pub outcome-code-spec : {M : Type 1} → statement M
-outcome-code-spec = tie.close (tie.spec (λ c. search rules) (λ c. search rules) refusal-code-requires (λ c. search rules) returns-2)
+pub outcome_code_spec : {M : Type 1} → statement M
+outcome_code_spec = tie.close (tie.spec (λ c. search rules) (λ c. search rules) refusal-code-requires (λ c. search rules) returns-2)

@@ -13,24 +13,24 @@ abbrev code : RunAnswer → ℕ
 code a = answer_code first_flow_code (run_answer_in a)
 
 -- the code of the first flow
-whole : (c : tie.After-known-told) → first_flow_code (first_flow_in c.before.a.given.0.0) < 2 ^ 64
-whole c = subst (λ a. code a < 2 ^ 64) c.before.a.given.1 c.before.before.before.requires
+whole : (c : tie.In-Done) → first_flow_code (first_flow_in c.in-Done.f) < 2 ^ 64
+whole c = subst (λ a. code a < 2 ^ 64) c.in-Done.is c.before.requires
 
-mul-result : tie.Need-overflow-mul-result
+mul-result : tie.Need-overflow_mul-result
 mul-result c = record { fits = omega (arith, whole c) }
 
-add-result : tie.Need-overflow-add-result
-add-result c = record { fits = rw c.verdict-code.ensures (whole c.before) }
+add-result : tie.Need-overflow_add-result
+add-result c = record { fits = rw c.verdict_code.ensures (whole c.before) }
 
-refusal-code-requires : tie.Need-refusal-code-requires
-refusal-code-requires c κs = subst (λ a. code a < 2 ^ 64) c.before.a2.given.1 c.before.before.before.requires
+refusal-code-requires : tie.Need-refusal_code-requires
+refusal-code-requires c κs = subst (λ a. code a < 2 ^ 64) c.in-Refused.is c.before.requires
 
-returns : tie.Need-returns
-returns c = rw c.verdict-code.ensures (ap code (sym c.before.before.a.given.1))
+returns : tie.Need-returns-in-Done
+returns c = rw c.verdict_code.ensures (ap code (sym c.before.in-Done.is))
 
-returns-2 : tie.Need-returns-2
-returns-2 c = c.refusal-code.ensures ∙ ap code (sym c.before.before.a2.given.1)
+returns-2 : tie.Need-returns-in-Refused
+returns-2 c = c.refusal_code.ensures ∙ ap code (sym c.before.in-Refused.is)
 
-pub run-code-spec : {M : Type 1} → statement M
-run-code-spec =
+pub run_code_spec : {M : Type 1} → statement M
+run_code_spec =
     tie.close (tie.spec (λ c. search rules) mul-result (λ c κs. search rules) add-result (λ c. search rules) refusal-code-requires returns returns-2)

@@ -11,14 +11,14 @@ use Rattle.codes.proofs.codes.step_code.Tie as tie
 abbrev code : StepAnswer → ℕ
 code a = answer_code verdict_code (step_answer_in a)
 
-refusal-code-requires : tie.Need-refusal-code-requires
-refusal-code-requires c κs = subst (λ a. code a < 2 ^ 64) c.before.a2.given.1 c.before.before.before.requires
+refusal-code-requires : tie.Need-refusal_code-requires
+refusal-code-requires c κs = subst (λ a. code a < 2 ^ 64) c.in-Refused.is c.before.requires
 
-returns : tie.Need-returns
-returns c = c.verdict-code.ensures ∙ ap code (sym c.before.before.a.given.1)
+returns : tie.Need-returns-in-Done
+returns c = c.verdict_code.ensures ∙ ap code (sym c.before.in-Done.is)
 
-returns-2 : tie.Need-returns-2
-returns-2 c = c.refusal-code.ensures ∙ ap code (sym c.before.before.a2.given.1)
+returns-2 : tie.Need-returns-in-Refused
+returns-2 c = c.refusal_code.ensures ∙ ap code (sym c.before.in-Refused.is)
 
-pub step-code-spec : {M : Type 1} → statement M
-step-code-spec = tie.close (tie.spec (λ c. search rules) (λ c κs. search rules) (λ c. search rules) refusal-code-requires returns returns-2)
+pub step_code_spec : {M : Type 1} → statement M
+step_code_spec = tie.close (tie.spec (λ c. search rules) (λ c κs. search rules) (λ c. search rules) refusal-code-requires returns returns-2)
