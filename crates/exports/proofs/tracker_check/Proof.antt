@@ -7,11 +7,11 @@ use Rattle.codes.proofs.Small.{outcome_fits}
 use Rattle.exports.proofs.tracker_check.Statement.{statement}
 use Rattle.exports.proofs.tracker_check.Tie as tie
 
-outcome-code-requires : tie.Need-outcome-code-requires
-outcome-code-requires c κs = rw c.check.ensures (outcome_fits (check_given _))
+outcome-code-requires : tie.Need-outcome_code-requires
+outcome-code-requires c κs = rw c.check-o.ensures (outcome_fits (check_given _))
 
 returns : tie.Need-returns
-returns c = c.outcome-code.ensures ∙ ap outcome_code c.before.check.ensures
+returns c = c.outcome_code.ensures ∙ ap outcome_code c.before.check-o.ensures
 
-pub tracker-check-spec : {M : Type 1} → statement M
-tracker-check-spec = tie.close (tie.spec (λ c κs. search rules) outcome-code-requires returns)
+pub tracker_check_spec : {M : Type 1} → statement M
+tracker_check_spec = tie.close (tie.spec (λ c κs. search rules) outcome-code-requires returns)

@@ -8,13 +8,13 @@ use Rattle.codes.proofs.Small.{outcome_fits}
 use Rattle.exports.proofs.tracker_double.Statement.{statement}
 use Rattle.exports.proofs.tracker_double.Tie as tie
 
-outcome-code-requires : tie.Need-outcome-code-requires
-outcome-code-requires c κs = rw (ap (λ (p : Doubling). p.refusal) c.before.before.double.ensures) (outcome_fits (doubled_given _ _))
+outcome-code-requires : tie.Need-outcome_code-requires
+outcome-code-requires c κs = rw (ap (λ (p : Doubling). p.refusal) c.before.before.double-o.ensures) (outcome_fits (doubled_given _ _))
 
 returns : tie.Need-returns
 returns c =
-    let did = c.before.before.before.double.ensures in
-    (c.outcome-code.ensures ∙ ap (λ (p : Doubling). outcome_code p.refusal) did, ap (λ (p : Doubling). p.buffer) did)
+    let did = c.before.before.before.double-o.ensures in
+    (c.outcome_code.ensures ∙ ap (λ (p : Doubling). outcome_code p.refusal) did, ap (λ (p : Doubling). p.buffer) did)
 
-pub tracker-double-spec : {M : Type 1} → statement M
-tracker-double-spec = tie.close (tie.spec (λ c κs. search rules) outcome-code-requires (λ c. search rules) returns)
+pub tracker_double_spec : {M : Type 1} → statement M
+tracker_double_spec = tie.close (tie.spec (λ c κs. search rules) outcome-code-requires (λ c. search rules) returns)

@@ -7,15 +7,15 @@ use Rattle.codes.proofs.Small.{answer_fits, run_answered, among_small}
 use Rattle.exports.proofs.tracker_run.Statement.{statement}
 use Rattle.exports.proofs.tracker_run.Tie as tie
 
-run-code-requires : tie.Need-run-code-requires
-run-code-requires c κs = rw (ap (λ (d : Ran). d.answer) c.before.before.before.before.run.ensures) (answer_fits first_flow_code among_small (run_answered _ _ _ _ _))
+run-code-requires : tie.Need-run_code-requires
+run-code-requires c κs = rw (ap (λ (d : Ran). d.answer) c.before.before.before.before.run-a.ensures) (answer_fits first_flow_code among_small (run_answered _ _ _ _ _))
 
 returns : tie.Need-returns
 returns c =
-    let did = c.before.before.before.before.before.run.ensures in (
-      c.run-code.ensures ∙ ap (λ (d : Ran). answer_code first_flow_code d.answer) did,
+    let did = c.before.before.before.before.before.run-a.ensures in (
+      c.run_code.ensures ∙ ap (λ (d : Ran). answer_code first_flow_code d.answer) did,
       (ap (λ (d : Ran). d.state) did, ap (λ (d : Ran). d.outputs) did),
     )
 
-pub tracker-run-spec : {M : Type 1} → statement M
-tracker-run-spec = tie.close (tie.spec (λ c κs. search rules) run-code-requires (λ c. search rules) (λ c. search rules) returns)
+pub tracker_run_spec : {M : Type 1} → statement M
+tracker_run_spec = tie.close (tie.spec (λ c κs. search rules) run-code-requires (λ c. search rules) (λ c. search rules) returns)

@@ -8,13 +8,13 @@ use Rattle.codes.proofs.Small.{outcome_fits}
 use Rattle.exports.proofs.tracker_static_power_up.Statement.{statement}
 use Rattle.exports.proofs.tracker_static_power_up.Tie as tie
 
-outcome-code-requires : tie.Need-outcome-code-requires
-outcome-code-requires c κs = rw (ap (λ (p : PoweredUp). p.refusal) c.before.before.static_power_up.ensures) (outcome_fits (static_powered_up_given _ _))
+outcome-code-requires : tie.Need-outcome_code-requires
+outcome-code-requires c κs = rw (ap (λ (p : PoweredUp). p.refusal) c.before.before.static_power_up-o.ensures) (outcome_fits (static_powered_up_given _ _))
 
 returns : tie.Need-returns
 returns c =
-    let did = c.before.before.before.static_power_up.ensures in
-    (c.outcome-code.ensures ∙ ap (λ (p : PoweredUp). outcome_code p.refusal) did, ap (λ (p : PoweredUp). p.state) did)
+    let did = c.before.before.before.static_power_up-o.ensures in
+    (c.outcome_code.ensures ∙ ap (λ (p : PoweredUp). outcome_code p.refusal) did, ap (λ (p : PoweredUp). p.state) did)
 
-pub tracker-static-power-up-spec : {M : Type 1} → statement M
-tracker-static-power-up-spec = tie.close (tie.spec (λ c κs. search rules) outcome-code-requires (λ c. search rules) returns)
+pub tracker_static_power_up_spec : {M : Type 1} → statement M
+tracker_static_power_up_spec = tie.close (tie.spec (λ c κs. search rules) outcome-code-requires (λ c. search rules) returns)
