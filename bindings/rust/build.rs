@@ -14,7 +14,7 @@ fn main() {
     // Only what is linked needs the library, so that it may be missing here.
     if !archive.is_file() {
         println!(
-            "cargo:warning={} is missing: run `rt staticlib exports` in the repository's root first",
+            "cargo:warning={} is missing: run `tools/build exports` in the repository's root first",
             archive.display()
         );
     }

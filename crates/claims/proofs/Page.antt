@@ -2,15 +2,11 @@
 use Prim.Native.Nat.{ℕ, zero, suc, ◌+◌, ◌-◌, ◌*◌, ◌/◌, ◌%◌, ◌≤◌, ◌<◌, min}
 use native.Mathlib.Omega.{arith}
 use native.Mathlib.Nat.{add-mul, mul_assoc, min-le_left, min-le_right, le-min, zero-add}
-use mathlib.Core.Path.{◌≡◌, refl, ap, sym, ◌∙◌}
+use mathlib.Core.Path.{◌≡◌, ap, sym, ◌∙◌}
 use mathlib.Core.List.{List}
-use mathlib.Core.Option.{none, some}
-use mathlib.Core.Bool.{Bool, true, false}
-use lib.Dec.{ltb}
+use mathlib.Core.Option.{none}
 use lib.ListN.{length, get_or, drop}
 use lib.Seq.{get_or-drop}
-use borrow.Author.Tests.{ltb-true, ltb-false}
-use Rattle.gates.specs.Kinds.{OUT}
 use Rattle.gates.specs.Rules.{value, mark}
 use Rattle.image.specs.Image.{sizes_of, net, nets_of}
 use Rattle.image.proofs.Nets.{length_nets}
@@ -20,7 +16,6 @@ use Rattle.cycle.proofs.Selections.{place_below}
 use Rattle.text.specs.Decimal.{decimal}
 use Rattle.text.proofs.Decimal.{decimal_most}
 use Rattle.page_text.specs.Pages.{outs_of, sign, output_bytes, output_line, pages_text, page_count}
-use Rattle.page_text.proofs.PageParts.{Numbers}
 use Rattle.page_text.proofs.Pagewise.{pages_length_lem}
 use Rattle.page_text.proofs.Places.{page_line, pages_at}
 use Rattle.page_text.proofs.Signs.{output_length, output_at}
@@ -28,8 +23,7 @@ use Rattle.page_text.proofs.LineChars as chars
 use Rattle.paging.specs.Paging.{pages_of, page_refusal, page_of}
 use Rattle.paging.proofs.PageCalls.{page_none, page_accepted, page_refused, outs_length, outs_numbers, outs_place}
 use Rattle.claims.specs.NetBytes.{net_of, place_of}
-use Rattle.claims.specs.Page as claim
-use Rattle.claims.specs.Page.{Written, Shape, Heading, NetNumber, Sign, PageShape, PageHeading, PageNet, PageSign, pages, line_at, sign_at, byte_at}
+use Rattle.claims.specs.Page.{Written, Shape, Heading, NetNumber, Sign, PageShape, PageHeading, PageNet, PageSign, pages, line_at, byte_at}
 use Rattle.claims.proofs.Unchanged.{not_some}
 
 -- an accepted call, and what it writes

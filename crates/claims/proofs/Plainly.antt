@@ -17,7 +17,6 @@ use Rattle.image.specs.Pins.{pin_net, like_pin}
 use Rattle.image.proofs.PinNets.{plain_net, plain_pin}
 use Rattle.image.proofs.Pairs.{pairs_append, pairs_get_or}
 use Rattle.image.proofs.Nets.{length_nets}
-use Rattle.refusals.proofs.Refusals.{accepted}
 use Rattle.net_checking.specs.Operands.{pin_a, pin_b, pin_c}
 use Rattle.net_checking.specs.NetCheck.{bad_pin, net_refusal}
 use Rattle.net_checking.proofs.Passes.{Passes, is_const, is_input, is_reg, is_not, is_and, is_or, is_xor, is_mux, is_out}

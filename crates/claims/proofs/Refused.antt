@@ -33,7 +33,7 @@ use Rattle.page_text.specs.Pages.{pages_length}
 use Rattle.paging.specs.Paging.{page_refusal, page_of}
 use Rattle.paging.proofs.PageCalls.{page_accepted, page_refused}
 use Rattle.static_run.proofs.StaticRefused.{code_none, static_power_up_accepted, static_power_up_refused, static_accepted, static_refused}
-use Rattle.claims.specs.Accepted.{Sized, NoneAbove3, OnlyCodes, AcceptedImage, RightCount, AcceptedStaticState, AcceptedRecord}
+use Rattle.claims.specs.Accepted.{Sized, NoneAbove3, OnlyCodes, AcceptedImage, RightCount, AcceptedStaticState}
 use Rattle.claims.specs.Refused.{AnyCall, check, power_up, step, run, static_power_up, static_run, doubled_size_lem, double, page, Gives, BadNet, kind, pin, value, unlisted, BadImage, short, no_nets, many_nets, inexact, bad_net, miscounted, FirstAbove3, BadLent, state_size, state_byte, state_count, row_size, row_byte, buffer_size, FirstNoCode, BadStatic, static_state_size, static_state_byte, static_row_size, static_row_byte, static_buffer_size, Refused, bad_image, bad_state, bad_step, many_cycles, bad_run, bad_static_state, many_static_cycles, bad_static_run, size_large, doubled_large, doubled_length, many_page_cycles, record_byte, record_size, page_size, Refusals}
 use Rattle.claims.proofs.InTurn.{InTurn, given_first, first_given}
 use Rattle.claims.proofs.Accepted as accept

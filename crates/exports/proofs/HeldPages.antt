@@ -1,7 +1,7 @@
 -- The promises about pages, used in full: together they leave one text, and a call whose image, record and buffer are as they should be writes it.
 use Prim.Native.Nat.{ℕ, zero, suc, ◌+◌, ◌-◌, ◌*◌, ◌/◌, ◌%◌, ◌≤◌, ◌<◌, min}
 use native.Mathlib.Omega.{arith}
-use native.Mathlib.Nat.{zero-mul, min-eq_left, mul_assoc, div-lt_iff_lt-mul, mod-lt, div-add-mod', mul-le-mul, add-mul, one-mul, div-mul-le_self}
+use native.Mathlib.Nat.{zero-mul, min-eq_left, mul_assoc, div-lt_iff_lt-mul, mod-lt, div-add-mod', mul-le-mul, add-mul, one-mul}
 use mathlib.Core.Logic.{◌⊎◌, inl, inr, ⊎_elim}
 use mathlib.Core.Path.{◌≡◌, refl, ap, sym, ◌∙◌}
 use mathlib.Core.Bool.{Bool, true, false}
@@ -20,7 +20,7 @@ use Rattle.paging.specs.Paging.{Paged, page_refusal, page_of}
 use Rattle.paging.proofs.PageCalls.{page_accepted}
 use Rattle.claims.specs.Accepted.{AcceptedImage, NoneAbove3, AcceptedRecord}
 use Rattle.claims.specs.Refused.{page, FirstAbove3, BadImage, Refused, bad_image, many_page_cycles, record_byte, record_size, page_size}
-use Rattle.claims.specs.NetBytes.{net_of, place_of}
+use Rattle.claims.specs.NetBytes.{net_of}
 use Rattle.claims.specs.Page.{Written, Shape, Heading, NetNumber, Sign, pages, line_at, byte_at}
 use Rattle.claims.proofs.Promised.{promised}
 use Rattle.codes.specs.Codes.{page_code}

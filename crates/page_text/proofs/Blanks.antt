@@ -1,9 +1,9 @@
 -- Blanks, and texts that are set left or right: how long they are.
-use Prim.Native.Nat.{ℕ, zero, suc, ◌+◌, ◌-◌, ◌≤◌, ◌<◌, ◌^◌}
+use Prim.Native.Nat.{ℕ, zero, suc, ◌-◌, ◌≤◌}
 use native.Mathlib.Omega.{arith}
 use mathlib.Core.Path.{◌≡◌, refl, ap}
-use mathlib.Core.List.{List, [], ◌∷◌, ◌++◌}
-use lib.ListN.{length, take, replicate, length-append, length-replicate}
+use mathlib.Core.List.{List, ◌∷◌}
+use lib.ListN.{length, take, length-append, length-replicate}
 use Rattle.page_text.specs.Pages.{blanks, set_left, set_right}
 
 pub take_blanks : (n m : ℕ) → n ≤ m → take n (blanks m) ≡ blanks n

@@ -1,7 +1,7 @@
 -- The characters of a heading and of an output's line.
-use Prim.Native.Nat.{ℕ, zero, suc, ◌+◌, ◌-◌, ◌*◌, ◌/◌, ◌%◌, ◌≤◌, ◌<◌}
+use Prim.Native.Nat.{ℕ, zero, suc, ◌+◌, ◌-◌, ◌≤◌, ◌<◌}
 use native.Mathlib.Omega.{arith}
-use mathlib.Core.Path.{◌≡◌, refl, ap, ◌∙◌}
+use mathlib.Core.Path.{◌≡◌, refl, ◌∙◌}
 use mathlib.Core.Logic.{◌⊎◌, inl, inr, ⊎_elim}
 use mathlib.Core.List.{List, map}
 use mathlib.Core.Bool.{Bool, true, false, cond}
@@ -12,9 +12,8 @@ use Rattle.gates.specs.Rules.{value, mark}
 use Rattle.text.specs.Ascii.{ascii}
 use Rattle.text.specs.Decimal.{decimal}
 use Rattle.text.proofs.Decimal.{decimal_most, decimal_few, decimal_printed}
-use Rattle.page_text.specs.Pages.{set_left, set_right, line, heading, sign, output_bytes, output_line}
+use Rattle.page_text.specs.Pages.{set_left, set_right, heading, sign, output_line}
 use Rattle.page_text.proofs.Blanks.{left_length, right_length}
-use Rattle.page_text.proofs.Signs.{output_length, output_at}
 use Rattle.page_text.proofs.Chars.{map_at, left_text, left_blank, right_blank, right_text, line_label, line_blank, line_rest, line_newline}
 
 -- a number is below another or not

@@ -1,17 +1,16 @@
 -- The parts of a line, one behind the other, and its length.
-use Prim.Native.Nat.{ℕ, ◌+◌, ◌-◌, ◌≤◌, ◌<◌}
+use Prim.Native.Nat.{ℕ, ◌-◌, ◌≤◌, ◌<◌}
 use native.Mathlib.Omega.{arith}
-use mathlib.Core.Path.{◌≡◌, refl, ap}
-use mathlib.Core.List.{List, [], ◌∷◌, ◌++◌, map, append_assoc}
+use mathlib.Core.Path.{◌≡◌, refl}
+use mathlib.Core.List.{List, [], ◌∷◌, map, append_assoc}
 use lib.Dec.{lit≤}
 use lib.ListN.{length, length-append, length-map}
 use Rattle.text.specs.Ascii.{ascii, space, newline}
 use Rattle.text.specs.Decimal.{decimal}
 use Rattle.text.proofs.Decimal.{decimal_most, decimal_few}
 use Rattle.text.proofs.Putting.{joined}
-use Rattle.page_text.specs.Pages.{blanks, set_left, set_right, line, heading, sign, output_bytes, output_line}
+use Rattle.page_text.specs.Pages.{blanks, set_left, set_right, line, heading, sign, output_line}
 use Rattle.page_text.proofs.Blanks.{left_length, right_length}
-use Rattle.page_text.proofs.Signs.{output_length}
 
 abbrev pub heading_parts : (first : ℕ) → List (List ℕ)
 heading_parts first = ascii "cycle " ∷ decimal first ∷ blanks (64 - length (decimal first)) ∷ newline ∷ []

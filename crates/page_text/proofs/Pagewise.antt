@@ -1,14 +1,14 @@
 -- Pages, one behind the other: how long they are together, and the page of the next cycles.
-use Prim.Native.Nat.{ℕ, zero, suc, ◌+◌, ◌-◌, ◌*◌, ◌/◌, ◌≤◌, ◌<◌, min}
+use Prim.Native.Nat.{ℕ, zero, suc, ◌+◌, ◌-◌, ◌*◌, ◌/◌, ◌<◌, min}
 use native.Mathlib.Omega.{arith}
 use native.Mathlib.Nat.{min-eq_left, min-eq_right, min-le_left, zero-mul, add-mul, one-mul}
-use mathlib.Core.Path.{◌≡◌, refl, ap, sym, ◌∙◌}
+use mathlib.Core.Path.{◌≡◌, refl}
 use mathlib.Core.Bool.{Bool, true, false}
-use mathlib.Core.List.{List, [], ◌∷◌, ◌++◌}
+use mathlib.Core.List.{List, ◌++◌}
 use lib.Dec.{ltb}
 use lib.ListN.{length, drop, length-append}
 use borrow.Author.Tests.{ltb-true, ltb-false}
-use Rattle.page_text.specs.Pages.{page_text, pages_text, page_count, pages_length}
+use Rattle.page_text.specs.Pages.{page_text, pages_text, page_count}
 use Rattle.page_text.proofs.PageParts.{Numbers, page_length}
 
 pub pages_length_lem : (m first k : ℕ) (outs bytes : List ℕ) → Numbers outs → length (pages_text m first k outs bytes) ≡ m * ((1 + length outs) * 71)

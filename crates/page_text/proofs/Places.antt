@@ -1,8 +1,8 @@
 -- Where each line of each page stands.
 use Prim.Native.Nat.{ℕ, zero, suc, ◌+◌, ◌-◌, ◌*◌, ◌≤◌, ◌<◌, min}
 use native.Mathlib.Omega.{arith}
-use native.Mathlib.Nat.{add-mul, one-mul, mul-le-mul, min-le_left, zero-mul, add-zero, zero-add}
-use mathlib.Core.Path.{◌≡◌, refl, ap, sym, ◌∙◌}
+use native.Mathlib.Nat.{add-mul, one-mul, min-le_left, zero-mul, add-zero, zero-add}
+use mathlib.Core.Path.{◌≡◌, ap, ◌∙◌}
 use mathlib.Core.List.{List, [], ◌∷◌, ◌++◌}
 use lib.ListN.{length, get_or, drop, get_or-append}
 use lib.Seq.{drop-drop}
@@ -10,7 +10,7 @@ use Rattle.page_text.specs.Pages.{heading, output_bytes, output_line, output_lin
 use Rattle.page_text.proofs.Chars.{behind}
 use Rattle.page_text.proofs.Signs.{output_length}
 use Rattle.page_text.proofs.LineParts.{heading_length, output_line_length}
-use Rattle.page_text.proofs.PageParts.{Numbers, lines_length, page_length}
+use Rattle.page_text.proofs.PageParts.{Numbers, page_length}
 
 -- line l of a page: the heading, and then the lines of the outputs
 abbrev pub page_line : (first n : ℕ) (outs bytes : List ℕ) (l : ℕ) → List ℕ

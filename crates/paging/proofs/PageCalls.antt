@@ -16,7 +16,7 @@ use Rattle.image.proofs.Nets.{length_nets}
 use Rattle.refusals.specs.declared.answer.Refusal.{Refusal}
 use Rattle.refusals.proofs.Refusals.{accepted, Codes}
 use Rattle.checking.specs.Check.{check_refusal}
-use Rattle.checking.proofs.Checked.{Checked, check_none, few_of}
+use Rattle.checking.proofs.Checked.{Checked, few_of}
 use Rattle.cycle.proofs.Selections.{selection_length, selection_place}
 use Rattle.lists.proofs.Placing.{places_selected, places_differ}
 use Rattle.page_text.specs.Pages.{outs_of, pages_length}

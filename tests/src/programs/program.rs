@@ -40,7 +40,7 @@ impl Program {
         match path.canonicalize() {
             Ok(path) if path.is_file() => path,
             _ => panic!(
-                "There is no file {}: run \"rt check {}\" first, or set {} to the program.",
+                "There is no file {}: run \"tools/build {}\" first, or set {} to the program.",
                 path.display(),
                 self.name,
                 self.variable

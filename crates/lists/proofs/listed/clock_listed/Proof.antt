@@ -24,7 +24,6 @@ loop-holds c = (omega arith, gather_begins _ _ _ c.requires.1.1)
 
 -- a net that is listed
 module _ (c : tie.In-loop-j invariant-loop-j decreases-loop-j) where
-
   checked : Checked c.args.image.now
   checked = (check_none _).0 c.requires.0.0
 

@@ -1,5 +1,5 @@
 -- `lists::lists::find_parts` meets its contract.
-use Prim.Native.Nat.{◌+◌, ◌-◌, ◌≤◌}
+use Prim.Native.Nat.{◌+◌, ◌≤◌}
 use borrow.Author.Rules.{rules}
 use native.Mathlib.Omega.{arith}
 use mathlib.Core.Path.{◌≡◌, ap, ◌∙◌}
@@ -43,7 +43,6 @@ list-kinds-requires c κs =
 
 -- with the lists of the kinds in place
 module _ (c : tie.After-list_kinds) where
-
   abbrev start₁ : tie.Start
   start₁ = c.before.before.before.before.before.before.before.before
 

@@ -25,7 +25,6 @@ loop-holds c = (omega arith, omega arith, refl, refl)
 
 -- at the head of a turn: an OUT is there, and there is room for it
 module _ (c : tie.In-loop-j invariant-loop-j decreases-loop-j) where
-
   checked : Checked c.args.image.now
   checked = (check_none _).0 c.requires.0.0
 

@@ -1,11 +1,10 @@
 -- `page_text::lines::put_heading` meets its contract: four parts, one behind the other.
-use Prim.Native.Nat.{ℕ, ◌-◌}
+use Prim.Native.Nat.{ℕ}
 use native.Mathlib.Omega.{arith}
 use mathlib.Core.List.{List, [], ◌∷◌}
-use lib.ListN.{length, drop, length-replicate}
+use lib.ListN.{drop, length-replicate}
 use borrow.Author.Rules.{rules}
 use Rattle.text.specs.Ascii.{newline}
-use Rattle.text.specs.Decimal.{decimal}
 use Rattle.text.proofs.Decimal.{decimal_most}
 use Rattle.text.proofs.Putting.{Left, left_all, left_room, left_then, left_none}
 use Rattle.page_text.specs.Pages.{heading}

@@ -1,11 +1,10 @@
 -- `page_text::pages::put_page` meets its contract: at output j the lines of the outputs before it stand, and those of the others are left.
 use Prim.Native.Nat.{ℕ, ◌+◌, ◌*◌, ◌-◌, ◌≤◌}
 use native.Mathlib.Omega.{arith}
-use mathlib.Core.Path.{◌≡◌, refl, ap, ◌∙◌}
+use mathlib.Core.Path.{◌≡◌, ap, ◌∙◌}
 use mathlib.Core.List.{List, [], ◌∷◌, append_assoc, append-nil}
 use lib.ListN.{length, get_or, drop}
 use lib.Seq.{length-sets}
-use borrow.Author.Rules.{rules}
 use Rattle.text.proofs.Putting.{Left, left_all, left_as, left_room, left_then, left_none, sets_append}
 use Rattle.page_text.specs.Pages.{heading, output_bytes, output_line, output_lines, page_text}
 use Rattle.page_text.proofs.LineParts.{heading_length}

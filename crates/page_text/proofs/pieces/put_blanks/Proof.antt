@@ -1,10 +1,8 @@
 -- `page_text::pieces::put_blanks` meets its contract: the first of 64 blanks are put.
 use Prim.Native.Nat.{ℕ}
-use native.Mathlib.Omega.{arith}
-use mathlib.Core.Path.{◌≡◌, sym, ap, ◌∙◌}
-use lib.ListN.{length, take, length-replicate}
+use mathlib.Core.Path.{sym}
+use lib.ListN.{length-replicate}
 use borrow.Author.Rules.{rules}
-use Rattle.page_text.specs.Pages.{blanks}
 use Rattle.page_text.proofs.Blanks.{take_blanks}
 use Rattle.page_text.proofs.pieces.put_blanks.Statement.{statement}
 use Rattle.page_text.proofs.pieces.put_blanks.Tie as tie

@@ -20,7 +20,6 @@ returns c =
 
 -- past the refusals
 module _ (c : tie.In_default) where
-
   accepted : page_refusal c.args.image.now c.args.k c.args.outputs.now c.args.page.now ≡ none
   accepted = sym c.page_refusal-o.ensures ∙ ap refusal_in c.in_default.is
 

@@ -1,6 +1,6 @@
 -- `paging::paging::put_listed` meets its contract: the net numbers of the OUTs are listed, and the pages put by them.
 use native.Mathlib.Omega.{arith}
-use mathlib.Core.Path.{◌≡◌, sym, ap, ◌∙◌}
+use mathlib.Core.Path.{◌≡◌, ap, ◌∙◌}
 use mathlib.Core.Option.{none}
 use Prim.Native.Nat.{◌*◌, ◌≤◌}
 use lib.ListN.{length}

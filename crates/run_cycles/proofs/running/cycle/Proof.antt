@@ -30,7 +30,6 @@ module _ (c : tie.Start) where
 
 -- the net bytes that were worked out are as many as before
 module _ (c : tie.After-work_out_listed) where
-
   size : length c.work_out_listed.new.nets ≡ 40960
   size = c.work_out_listed.auto.nets ∙ c.requires.1.0.0
 

@@ -65,7 +65,6 @@ cycles-requires c κs =
 
 -- the registers that the cycles left stand in front of the two bytes
 module _ (c : tie.After-cycles-first) where
-
   abbrev left : List ℕ
   left = c.cycles-first.new.state
 

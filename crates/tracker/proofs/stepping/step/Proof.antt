@@ -80,7 +80,6 @@ work-out-requires c κs =
 
 -- the net bytes that were worked out are as many as before, and 0 to 3
 module _ (c : tie.After-work_out) where
-
   nets-size : length c.work_out.new.nets ≡ c.sizes_of-z.result.nets
   nets-size = c.work_out.auto.nets ∙ ((step_none _ _ _ _).0 (accepted c.before.before.before.before.before)).1 ∙ sym (nets-are c.before.before.before.before)
 
