@@ -50,6 +50,7 @@ fn check_nets(s: &[u8], n: usize) -> Outcome
 }
 
 // Whether an image is accepted: the first of refusals 1 to 8 that applies, or done.
+#[tactic(auto, unfolding(crate::specs::Check::check_refusal))]
 pub fn check(image: &[u8]) -> Outcome
     ensures { refusal_in result ≡ check_refusal image.now }
 {

@@ -42,6 +42,7 @@ fn bad_unlisted(x: Net) -> bool
 }
 
 // Refusals 4 to 7 at net i of n, by the conditions themselves.
+#[tactic(auto, unfolding(crate::specs::NetCheck::net_refusal))]
 fn refuse_net(n: usize, i: usize, x: Net) -> Outcome
     requires { Fits x }
     ensures { refusal_in result ≡ net_refusal n i x }

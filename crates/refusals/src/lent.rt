@@ -33,6 +33,7 @@ fn any_bad(top: u8, s: &[u8]) -> bool
 }
 
 // The index of the first bad byte, or the length where there is none.
+#[tactic(auto, using(crate::proofs::BadBytes::bad_here, crate::proofs::BadBytes::bad_later, crate::proofs::BadBytes::bad_nowhere))]
 fn first_bad(top: u8, s: &[u8]) -> usize
     ensures { (number : ℕ) → bad_byte (bad_above top) number 0 s.now ≡ refuse (not (eqb result (length s.now))) number result }
 {
@@ -61,6 +62,7 @@ pub fn byte_refusal(number: u32, top: u8, s: &[u8]) -> Outcome
 }
 
 // Two refusals of a lent slice: `number` where it is not n bytes long, and else `next` at its first bad byte, where `top` is the highest code.
+#[tactic(auto, unfolding(crate::specs::Refusals::bad_length))]
 pub fn codes_refusal(number: u32, next: u32, n: usize, top: u8, s: &[u8]) -> Outcome
     ensures { refusal_in result ≡ (bad_length number n s.now then bad_byte (bad_above top) next 0 s.now) }
 {

@@ -82,7 +82,7 @@ loop-holds c = begins _ _ c.requires.0
 
 net-of-requires : tie.Need-net_of-x-requires invariant-loop-i decreases-loop-i
 net-of-requires c κs =
-    rw (← c.requires.0) (c.loop-i-test.true, c.requires.2)
+    rw (← c.requires.0) (omega (arith, c.loop-i-test.true), c.requires.2)
 
 check-net-requires : tie.Need-check_net-o-requires invariant-loop-i decreases-loop-i
 check-net-requires c κs =
@@ -97,7 +97,7 @@ this_net c =
 
 returns : tie.Need-returns-in-Refused invariant-loop-i decreases-loop-i
 returns c =
-    stops c.loop-i.invariant c.loop-i-test.true (this_net c.before.before.before.before) _ _
+    stops c.loop-i.invariant (omega (arith, c.loop-i-test.true)) (this_net c.before.before.before.before) _ _
     (sym c.check_net-o.ensures ∙ ap refusal_in c.in-Refused.is)
 
 -- a net that passed
@@ -107,7 +107,7 @@ passed c = sym c.check_net-o.ensures ∙ ap refusal_in c.in_default.is
 
 loop-again : tie.Need-loop-i-preserved invariant-loop-i decreases-loop-i
 loop-again c =
-    goes_on c.loop-i.invariant c.loop-i-test.true (this_net c.before.before.before.before.before) (passed c.before)
+    goes_on c.loop-i.invariant (omega (arith, c.loop-i-test.true)) (this_net c.before.before.before.before.before) (passed c.before)
 
 -- its place among the counts, and the count there
 small : (c : tie.In_default invariant-loop-i decreases-loop-i) → c.net_of-x.result.kind < 9

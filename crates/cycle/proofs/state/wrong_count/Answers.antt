@@ -1,5 +1,4 @@
 -- `cycle::state::wrong_count` meets its contract: the two bytes are compared with those of the number.
-use Rattle.std.proofs.Common.{refl}
 use Rattle.cycle.specs.State.{miscounted}
 use Rattle.cycle.proofs.state.wrong_count.Goals as goal
 
