@@ -15,7 +15,7 @@ pub fn wide(x: u16) -> usize
 // For a pin to net i: a pin to start i with the top bit as it has it, and one to start i + 1 less 1 without the bit.
 pub fn pair_of(starts: &[u16; 8193], p: usize) -> Pair
     requires p_bound { (p < 65536) × (pin_net p < 8192) }
-    requires p_bound_2 { (get_or starts.now (pin_net p) 0 ≤ 8192) × (0 < get_or starts.now (pin_net p + 1) 0) }
+    requires starts_bound { (get_or starts.now (pin_net p) 0 ≤ 8192) × (0 < get_or starts.now (pin_net p + 1) 0) }
     ensures { (result.value ≡ like_pin p (get_or starts.now (pin_net p) 0)) × (result.mark ≡ get_or starts.now (pin_net p + 1) 0 - 1) × PairFits result }
 {
     let i = pin_net(p);

@@ -43,6 +43,7 @@ fn no_size(r: Refusal) -> DoubledSize
 }
 
 // The nets and bytes of the doubled netlist, and its nets of each kind. Nothing is written. It turns back with 1 to 8 and 15, as doubling does.
+#[tactic(auto, using(crate::proofs::Refusing::not_checked, crate::proofs::Refusing::too_large, crate::proofs::Refusing::fits))]
 pub fn doubled_size(image: &[u8]) -> DoubledSize
     ensures { figures result ≡ doubled_size_of image.now }
 {

@@ -19,6 +19,7 @@ use Rattle.cycle.specs.Cycle.{Walk, pin_byte, net_byte, past, walk, registers}
 use Rattle.cycle.specs.Calls.{start, starts}
 use Rattle.cycle.proofs.Ruling.{plain_reads, pin_same}
 use Rattle.groups.specs.Groups.{mark_start, reg_group, group_of}
+use Rattle.groups.proofs.GroupBytes.{not_bytes, and_bytes, or_bytes, xor_bytes, mux_bytes}
 
 abbrev pub at : (bytes row state : List ℕ) → Walk
 at b r s = record { bytes = b; row = r; state = s }
@@ -66,40 +67,6 @@ walked_all {bs} row st l c = rw (append-nil bs) at (walked row st l c)
 pub comes_length : {bs : List ℕ} {v : ℕ} {es fs : List ℕ} {gs : List Net} → Comes bs v es gs fs → length fs ≡ length es + length gs
 comes_length done = sym (add-zero _)
 comes_length (gate {k} {x = x} {y} {z} {es} {gs = gs} h a b c r) = comes_length r ∙ rw length-append (omega arith)
-
--- GROUP BYTES. What the nets of a group come to, from the bytes a, b, c of the source's pins
-not_bytes : ℕ → List ℕ
-not_bytes a = not_byte (a % 2) ∷ or_byte (a / 2) (a / 2) ∷ []
-
-and_bytes : ℕ → ℕ → List ℕ
-and_bytes a b =
-    let p = and_byte (a / 2) (b % 2) in
-    let q = and_byte (b / 2) (a % 2) in
-    let r = and_byte (a / 2) (b / 2) in
-    let s = or_byte p q in
-    and_byte (a % 2) (b % 2) ∷ p ∷ q ∷ r ∷ s ∷ or_byte s r ∷ []
-
-or_bytes : ℕ → ℕ → List ℕ
-or_bytes a b =
-    let m = not_byte (a % 2) in
-    let n = not_byte (b % 2) in
-    let p = and_byte (a / 2) n in
-    let q = and_byte (b / 2) m in
-    let r = and_byte (a / 2) (b / 2) in
-    let s = or_byte p q in
-    or_byte (a % 2) (b % 2) ∷ m ∷ n ∷ p ∷ q ∷ r ∷ s ∷ or_byte s r ∷ []
-
-xor_bytes : ℕ → ℕ → List ℕ
-xor_bytes a b = xor_byte (a % 2) (b % 2) ∷ or_byte (a / 2) (b / 2) ∷ []
-
-mux_bytes : ℕ → ℕ → ℕ → List ℕ
-mux_bytes a b c =
-    let p = xor_byte (a % 2) (b % 2) in
-    let q = or_byte (a / 2) (b / 2) in
-    let r = or_byte p q in
-    let w = and_byte (c / 2) r in
-    let z = mux_byte (a / 2) (b / 2) (c % 2) in
-    mux_byte (a % 2) (b % 2) (c % 2) ∷ p ∷ q ∷ r ∷ w ∷ z ∷ or_byte w z ∷ []
 
 -- the first byte of a group is the value of the byte x, and the last its mark
 pub record Splits (x : ℕ) (es : List ℕ) : Type 0 where

@@ -1,2 +1,3 @@
 -- What the nets of a group show.
+mod GroupBytes
 pub mod Groups
