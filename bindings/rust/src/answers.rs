@@ -58,7 +58,7 @@ fn accepted(answer: u64) -> Result<usize, Refusal> {
         return Ok(low);
     }
     match Reason::from_number(number) {
-        Some(reason) => Err(Refusal::new(reason, low)),
+        Some(reason) => Err(Refusal { reason, place: low }),
         None => unknown(answer),
     }
 }

@@ -161,11 +161,15 @@ impl Builder {
     /// let mut builder = Builder::new();
     /// let input = builder.input();
     /// builder.and(input, Pin::of(7));
-    /// assert_eq!(builder.image(), Err(Refusal::new(Reason::Pin, 1)));
+    /// let refusal = Refusal { reason: Reason::Pin, place: 1 };
+    /// assert_eq!(builder.image(), Err(refusal));
     /// ```
     pub fn image(&self) -> Result<Vec<u8>, Refusal> {
         if self.len() > MOST_NETS {
-            return Err(Refusal::new(Reason::NetsOutOfRange, 0));
+            return Err(Refusal {
+                reason: Reason::NetsOutOfRange,
+                place: 0,
+            });
         }
         let image = encode(&self.nets);
         check(&image)?;

@@ -1,9 +1,7 @@
 //! The six calls that check, cycle and double.
 
 use crate::kinds::{AND, CONST, INPUT, MUX, NOT, OR, OUT, REG, XOR};
-use crate::measured::{measured, measured_image};
-use crate::{answers, ffi, image_length, state_length};
-use crate::{DoubledSize, FirstFlow, Reason, Refusal, Verdict};
+use crate::{answers, ffi, image_length, DoubledSize, FirstFlow, Refusal, Verdict};
 
 /// Checks whether an image is a netlist.
 ///
@@ -20,11 +18,11 @@ use crate::{DoubledSize, FirstFlow, Reason, Refusal, Verdict};
 /// let image = encode(&[Net::new(kinds::CONST, 1, 0, 0)]);
 /// assert_eq!(check(&image), Ok(()));
 ///
-/// let refusal = Refusal::new(Reason::ImageLength, 0).with_lengths(15, 14);
+/// let refusal = Refusal { reason: Reason::ImageLength, place: 0 };
 /// assert_eq!(check(&image[..14]), Err(refusal));
 /// ```
 pub fn check(image: &[u8]) -> Result<(), Refusal> {
-    answers::done(ffi::check(image)).map_err(|refusal| measured_image(refusal, image))
+    answers::done(ffi::check(image))
 }
 
 /// Sets each register to power-up: its start with mark 0, or value 0 with mark 1
@@ -51,13 +49,7 @@ pub fn check(image: &[u8]) -> Result<(), Refusal> {
 /// # Ok::<(), tracker::Refusal>(())
 /// ```
 pub fn power_up(image: &[u8], state: &mut [u8]) -> Result<(), Refusal> {
-    let answer = answers::done(ffi::power_up(image, state));
-    answer.map_err(|refusal| {
-        measured(refusal, image, |reason, sizes| match reason {
-            Reason::StateLength => Some((state_length(sizes.registers), state.len())),
-            _ => None,
-        })
-    })
+    answers::done(ffi::power_up(image, state))
 }
 
 /// Takes one cycle: works out all nets, gives the verdict, and then every
@@ -99,15 +91,7 @@ pub fn step(
     row: &[u8],
     nets: &mut [u8],
 ) -> Result<Verdict, Refusal> {
-    let answer = answers::step(ffi::step(image, state, row, nets));
-    answer.map_err(|refusal| {
-        measured(refusal, image, |reason, sizes| match reason {
-            Reason::StateLength => Some((state_length(sizes.registers), state.len())),
-            Reason::RowLength => Some((sizes.inputs, row.len())),
-            Reason::BufferLength => Some((sizes.nets, nets.len())),
-            _ => None,
-        })
-    })
+    answers::step(ffi::step(image, state, row, nets))
 }
 
 /// Takes K cycles, at most [`MOST_CYCLES`](crate::MOST_CYCLES), and answers with the first flow. It
@@ -143,15 +127,7 @@ pub fn run(
     rows: &[u8],
     outputs: &mut [u8],
 ) -> Result<FirstFlow, Refusal> {
-    let answer = answers::run(ffi::run(image, k, state, rows, outputs));
-    answer.map_err(|refusal| {
-        measured(refusal, image, |reason, sizes| match reason {
-            Reason::StateLength => Some((state_length(sizes.registers), state.len())),
-            Reason::RowLength => Some((k * sizes.inputs, rows.len())),
-            Reason::BufferLength => Some((k * sizes.outputs, outputs.len())),
-            _ => None,
-        })
-    })
+    answers::run(ffi::run(image, k, state, rows, outputs))
 }
 
 /// Says how big the doubled netlist gets, and writes nothing.
@@ -179,8 +155,7 @@ pub fn run(
 /// # Ok::<(), tracker::Refusal>(())
 /// ```
 pub fn doubled_size(image: &[u8]) -> Result<DoubledSize, Refusal> {
-    let nets = answers::doubled_size(ffi::doubled_size(image))
-        .map_err(|refusal| measured_image(refusal, image))?;
+    let nets = answers::doubled_size(ffi::doubled_size(image))?;
     let of_kind = |kind| answers::doubled_kind(ffi::doubled_kind(image, usize::from(kind)));
     Ok(DoubledSize {
         nets,
@@ -231,17 +206,5 @@ pub fn doubled_size(image: &[u8]) -> Result<DoubledSize, Refusal> {
 /// # Ok::<(), tracker::Refusal>(())
 /// ```
 pub fn double(image: &[u8], buffer: &mut [u8]) -> Result<(), Refusal> {
-    let answer = answers::done(ffi::double(image, buffer));
-    answer.map_err(|refusal| {
-        measured(refusal, image, |reason, _| match reason {
-            Reason::DoubledLength => Some((doubled_length(image)?, buffer.len())),
-            _ => None,
-        })
-    })
-}
-
-/// The length of the doubled image, by one call of the static library.
-fn doubled_length(image: &[u8]) -> Option<usize> {
-    let nets = answers::doubled_size(ffi::doubled_size(image));
-    nets.ok().map(image_length)
+    answers::done(ffi::double(image, buffer))
 }

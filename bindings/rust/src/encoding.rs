@@ -35,7 +35,7 @@ pub fn encode(nets: &[Net]) -> Vec<u8> {
 /// // One CONST, and an image that says that it has an INPUT.
 /// let nets = [Net::new(kinds::CONST, 0, 0, 0)];
 /// let sizes = Sizes { inputs: 1, ..Sizes::of(&nets) };
-/// let refusal = Refusal::new(Reason::Counts, 0);
+/// let refusal = Refusal { reason: Reason::Counts, place: 0 };
 /// assert_eq!(check(&encode_with(sizes, &nets)), Err(refusal));
 /// ```
 #[must_use]

@@ -52,8 +52,7 @@
 //! A call that turns back answers with a [`Refusal`] and has changed no lent
 //! byte, except at [`Reason::DoubledRefused`]. Each buffer must have its exact
 //! length, for which [`sizes`], [`state_length`], [`doubled_size`] and
-//! [`page_length`] help. Where one has not, the refusal says by [`Lengths`] which
-//! length the call wanted and which it was given.
+//! [`page_length`] help.
 //!
 //! # Images
 //!
@@ -87,9 +86,7 @@ pub mod ffi;
 mod image;
 pub mod kinds;
 mod layout;
-mod lengths;
 mod limits;
-mod measured;
 mod net;
 mod page;
 mod pin;
@@ -107,7 +104,6 @@ pub use doubled_size::DoubledSize;
 pub use encoding::{encode, encode_with};
 pub use image::Image;
 pub use layout::{image_length, kind_place, operand_place};
-pub use lengths::Lengths;
 pub use limits::{MOST_CYCLES, MOST_NETS};
 pub use net::Net;
 pub use page::{page, page_length};

@@ -1,7 +1,6 @@
 //! The pages of a run's outputs.
 
-use crate::measured::measured;
-use crate::{answers, ffi, Reason, Refusal};
+use crate::{answers, ffi, Refusal};
 
 /// The cycles that a page shows. The last page may show fewer.
 const PAGE_CYCLES: usize = 64;
@@ -72,12 +71,5 @@ pub const fn page_length(k: usize, outputs: usize) -> usize {
 /// # Ok::<(), tracker::Refusal>(())
 /// ```
 pub fn page(image: &[u8], k: usize, record: &[u8], page: &mut [u8]) -> Result<(), Refusal> {
-    let answer = answers::done(ffi::page(image, k, record, page));
-    answer.map_err(|refusal| {
-        measured(refusal, image, |reason, sizes| match reason {
-            Reason::BufferLength => Some((k * sizes.outputs, record.len())),
-            Reason::PageLength => Some((page_length(k, sizes.outputs), page.len())),
-            _ => None,
-        })
-    })
+    answers::done(ffi::page(image, k, record, page))
 }

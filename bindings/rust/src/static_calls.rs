@@ -1,7 +1,6 @@
 //! The two calls on codes.
 
-use crate::measured::measured;
-use crate::{answers, ffi, FirstFlow, Reason, Refusal};
+use crate::{answers, ffi, FirstFlow, Refusal};
 
 /// Sets each register to static power-up: its start with mark 0, or the code
 /// [`UNKNOWN_UNTRUSTED`](crate::codes::UNKNOWN_UNTRUSTED) where none is given.
@@ -25,13 +24,7 @@ use crate::{answers, ffi, FirstFlow, Reason, Refusal};
 /// # Ok::<(), tracker::Refusal>(())
 /// ```
 pub fn static_power_up(image: &[u8], state: &mut [u8]) -> Result<(), Refusal> {
-    let answer = answers::done(ffi::static_power_up(image, state));
-    answer.map_err(|refusal| {
-        measured(refusal, image, |reason, sizes| match reason {
-            Reason::StateLength => Some((sizes.registers, state.len())),
-            _ => None,
-        })
-    })
+    answers::done(ffi::static_power_up(image, state))
 }
 
 /// Takes K cycles on [`codes`](crate::codes), at most
@@ -100,13 +93,5 @@ pub fn static_run(
     rows: &[u8],
     outputs: &mut [u8],
 ) -> Result<FirstFlow, Refusal> {
-    let answer = answers::run(ffi::static_run(image, k, state, rows, outputs));
-    answer.map_err(|refusal| {
-        measured(refusal, image, |reason, sizes| match reason {
-            Reason::StateLength => Some((sizes.registers, state.len())),
-            Reason::RowLength => Some((k * sizes.inputs, rows.len())),
-            Reason::BufferLength => Some((k * sizes.outputs, outputs.len())),
-            _ => None,
-        })
-    })
+    answers::run(ffi::static_run(image, k, state, rows, outputs))
 }

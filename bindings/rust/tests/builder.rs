@@ -68,7 +68,7 @@ fn an_inverted_register_takes_the_inverted_pin() {
 }
 
 fn refused<T>(reason: Reason, place: usize) -> Result<T, Refusal> {
-    Err(Refusal::new(reason, place))
+    Err(Refusal { reason, place })
 }
 
 // 65,536 is above the sizes that an image has bytes for.

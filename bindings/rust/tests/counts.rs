@@ -104,10 +104,13 @@ fn refused(state: &[u8], row: &[u8]) -> Refusal {
 // and not a bad byte. 512 is that of the right bytes in the wrong order.
 #[test]
 fn every_other_count_is_refused() {
-    let refusal = Refusal::new(Reason::StateCount, 0);
+    let (reason, place) = (Reason::StateCount, 0);
     for count in [0, 1, 3, 4, 255, 258, 512, 65_535_u16] {
         let [low, high] = count.to_le_bytes();
-        assert_eq!(refused(&[3, 1, 2, low, high], &[0]), refusal);
+        assert_eq!(
+            refused(&[3, 1, 2, low, high], &[0]),
+            Refusal { reason, place }
+        );
     }
 }
 
@@ -115,26 +118,22 @@ fn every_other_count_is_refused() {
 // row.
 #[test]
 fn refusals_come_in_their_order() {
-    let at = Refusal::new;
-    let wrong = |reason, wanted, given| at(reason, 0).with_lengths(wanted, given);
-    assert_eq!(refused(&[3, 1, 4], &[]), wrong(Reason::StateLength, 5, 3));
-    assert_eq!(
-        refused(&[3, 1, 4, 9], &[]),
-        wrong(Reason::StateLength, 5, 4)
-    );
-    assert_eq!(refused(&[3; 6], &[]), wrong(Reason::StateLength, 5, 6));
+    let at = |reason, place| Refusal { reason, place };
+    assert_eq!(refused(&[3, 1, 4], &[]), at(Reason::StateLength, 0));
+    assert_eq!(refused(&[3, 1, 4, 9], &[]), at(Reason::StateLength, 0));
+    assert_eq!(refused(&[3; 6], &[]), at(Reason::StateLength, 0));
     assert_eq!(refused(&[3, 1, 4, 9, 9], &[]), at(Reason::StateByte, 2));
     assert_eq!(refused(&[3, 1, 2, 9, 9], &[]), at(Reason::StateCount, 0));
-    assert_eq!(
-        refused(&[3, 1, 2, 2, 0], &[]),
-        wrong(Reason::RowLength, 1, 0)
-    );
+    assert_eq!(refused(&[3, 1, 2, 2, 0], &[]), at(Reason::RowLength, 0));
 }
 
 // K = 0 refuses a wrong count too. A netlist without registers has the count 0.
 #[test]
 fn a_wrong_count_of_no_cycles_and_of_no_registers() {
-    let refusal = Err(Refusal::new(Reason::StateCount, 0));
+    let refusal = Err(Refusal {
+        reason: Reason::StateCount,
+        place: 0,
+    });
     let mut state = [3, 1, 2, 1, 0];
     assert_eq!(run(&encode(&CHAIN), 0, &mut state, &[], &mut []), refusal);
     assert_eq!(state, [3, 1, 2, 1, 0]);

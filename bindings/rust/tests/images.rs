@@ -129,8 +129,8 @@ fn the_wrong_number_of_nets_is_written_as_it_is() {
     let bytes = encode_with(sizes, &COUNTER);
     assert_eq!(bytes[0], 5);
     assert_eq!(bytes[1..], COUNTER_BYTES[1..]);
-    let refusal = Refusal::new(Reason::ImageLength, 0).with_lengths(43, 50);
-    assert_eq!(check(&bytes), Err(refusal));
+    let (reason, place) = (Reason::ImageLength, 0);
+    assert_eq!(check(&bytes), Err(Refusal { reason, place }));
 }
 
 #[test]

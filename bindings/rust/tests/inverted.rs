@@ -133,7 +133,7 @@ fn checked(net: Net) -> Result<(), Refusal> {
 // Net 1 of two: a gate's pin may name net 0, and a REG's nets 0 and 1.
 #[test]
 fn the_net_of_a_pin_is_looked_at_without_the_bit() {
-    let refused = |reason| Err(Refusal::new(reason, 1));
+    let refused = |reason| Err(Refusal { reason, place: 1 });
     assert_eq!(checked(Net::new(NOT, INVERTED, 0, 0)), Ok(()));
     assert_eq!(checked(Net::new(REG, INVERTED + 1, 0, 0)), Ok(()));
     let bad = [

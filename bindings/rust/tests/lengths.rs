@@ -97,6 +97,6 @@ fn the_figures_are_those_of_what_is_written() {
         image = written(&image);
         assert_eq!(image.len(), image_length(nets));
     }
-    let refusal = Refusal::new(Reason::DoubledTooLarge, 0);
-    assert_eq!(doubled_size(&image), Err(refusal));
+    let (reason, place) = (Reason::DoubledTooLarge, 0);
+    assert_eq!(doubled_size(&image), Err(Refusal { reason, place }));
 }

@@ -97,11 +97,6 @@ fn the_longest_run_without_outputs_has_headings_alone() {
     assert_eq!(pages(&nets, 0, &[]), "");
 }
 
-/// The refusal of a length.
-fn wrong(reason: Reason, wanted: usize, given: usize) -> Refusal {
-    Refusal::new(reason, 0).with_lengths(wanted, given)
-}
-
 /// The answer for a record of the counter and a page buffer of so many bytes. It
 /// must change no byte.
 fn refused(k: usize, record: &[u8], length: usize) -> Refusal {
@@ -115,31 +110,28 @@ fn refused(k: usize, record: &[u8], length: usize) -> Refusal {
 // record has two bytes, and the page 142.
 #[test]
 fn refusals_come_in_their_order() {
-    let at = Refusal::new;
+    let at = |reason, place| Refusal { reason, place };
     let image = &encode(&COUNTER)[..49];
     let answer = page(image, 4_097, &[4], &mut [7]);
-    assert_eq!(answer, Err(wrong(Reason::ImageLength, 50, 49)));
+    assert_eq!(answer, Err(at(Reason::ImageLength, 0)));
     for k in [4_097, usize::MAX] {
         assert_eq!(refused(k, &[4], 1), at(Reason::TooManyCycles, 0));
     }
     assert_eq!(refused(2, &[3, 0, 1, 4, 255], 1), at(Reason::RowByte, 3));
     assert_eq!(refused(2, &[4], 1), at(Reason::RowByte, 0));
-    assert_eq!(refused(2, &[3, 0, 1], 1), wrong(Reason::BufferLength, 2, 3));
-    assert_eq!(refused(2, &[3], 142), wrong(Reason::BufferLength, 2, 1));
+    assert_eq!(refused(2, &[3, 0, 1], 1), at(Reason::BufferLength, 0));
+    assert_eq!(refused(2, &[3], 142), at(Reason::BufferLength, 0));
     for length in [0, 141, 143, 284] {
-        assert_eq!(
-            refused(2, &[3, 0], length),
-            wrong(Reason::PageLength, 142, length)
-        );
+        assert_eq!(refused(2, &[3, 0], length), at(Reason::PageLength, 0));
     }
 }
 
 // K = 0 asks for an empty record and an empty page.
 #[test]
 fn no_cycles() {
-    let at = Refusal::new;
+    let at = |reason, place| Refusal { reason, place };
     assert_eq!(pages(&COUNTER, 0, &[]), "");
     assert_eq!(refused(0, &[4], 71), at(Reason::RowByte, 0));
-    assert_eq!(refused(0, &[3], 71), wrong(Reason::BufferLength, 0, 1));
-    assert_eq!(refused(0, &[], 71), wrong(Reason::PageLength, 0, 71));
+    assert_eq!(refused(0, &[3], 71), at(Reason::BufferLength, 0));
+    assert_eq!(refused(0, &[], 71), at(Reason::PageLength, 0));
 }

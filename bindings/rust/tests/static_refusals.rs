@@ -16,11 +16,6 @@ const COUNTER: [Net; 6] = [
     Net::new(OUT, 1, 1, 0),
 ];
 
-/// The refusal of a length.
-fn wrong(reason: Reason, wanted: usize, given: usize) -> Refusal {
-    Refusal::new(reason, 0).with_lengths(wanted, given)
-}
-
 /// The answer of a static run of the counter. It must change no byte.
 fn refused(k: usize, state: &[u8], rows: &[u8], outputs: &[u8]) -> Refusal {
     let (mut own_state, mut own_outputs) = (state.to_vec(), outputs.to_vec());
@@ -32,43 +27,37 @@ fn refused(k: usize, state: &[u8], rows: &[u8], outputs: &[u8]) -> Refusal {
 // Each call has the fault that it turns back for and those behind it.
 #[test]
 fn refusals_come_in_their_order() {
-    let at = Refusal::new;
+    let at = |reason, place| Refusal { reason, place };
     let (bad, good) = ([5, 7], [4, 6]);
     assert_eq!(
         refused(4_097, &bad, &bad, &[]),
         at(Reason::TooManyCycles, 0)
     );
-    assert_eq!(
-        refused(2, &bad, &[5], &[]),
-        wrong(Reason::StateLength, 1, 2)
-    );
+    assert_eq!(refused(2, &bad, &[5], &[]), at(Reason::StateLength, 0));
     assert_eq!(refused(2, &[7], &[5], &[]), at(Reason::StaticByte, 0));
-    assert_eq!(refused(2, &[6], &[5], &[]), wrong(Reason::RowLength, 2, 1));
+    assert_eq!(refused(2, &[6], &[5], &[]), at(Reason::RowLength, 0));
     assert_eq!(refused(2, &[6], &[6, 255], &[]), at(Reason::StaticByte, 1));
-    assert_eq!(
-        refused(2, &[6], &good, &[]),
-        wrong(Reason::BufferLength, 2, 0)
-    );
+    assert_eq!(refused(2, &[6], &good, &[]), at(Reason::BufferLength, 0));
     assert_eq!(refused(0, &[5], &[], &[]), at(Reason::StaticByte, 0));
 }
 
 #[test]
 fn a_static_power_up_asks_for_the_length_of_the_state() {
     let mut state = [7, 7];
+    let (reason, place) = (Reason::StateLength, 0);
     let answer = static_power_up(&encode(&COUNTER), &mut state);
-    assert_eq!(answer, Err(wrong(Reason::StateLength, 1, 2)));
-    assert_eq!(state, [7, 7]);
+    assert_eq!((answer, state), (Err(Refusal { reason, place }), [7, 7]));
 }
 
 // With the count that a run takes, the state is too long, also if the count is right.
 #[test]
 fn static_calls_take_no_count() {
-    let refusal = wrong(Reason::StateLength, 1, 3);
+    let (reason, place) = (Reason::StateLength, 0);
     for state in [[0, 0, 0], [3, 1, 0]] {
-        assert_eq!(refused(1, &state, &[0], &[7]), refusal);
+        assert_eq!(refused(1, &state, &[0], &[7]), Refusal { reason, place });
         let mut lent = state;
         let answer = static_power_up(&encode(&COUNTER), &mut lent);
-        assert_eq!((answer, lent), (Err(refusal), state));
+        assert_eq!((answer, lent), (Err(Refusal { reason, place }), state));
     }
 }
 
@@ -78,10 +67,12 @@ fn steps_and_runs_refuse_unknown_codes() {
     let image = encode(&COUNTER);
     let mut outputs = [7];
     for code in [UNKNOWN_TRUSTED, UNKNOWN_UNTRUSTED] {
+        let (reason, place) = (Reason::StateByte, 0);
         let answer = run(&image, 1, &mut [code, 0, 0], &[0], &mut outputs);
-        assert_eq!(answer, Err(Refusal::new(Reason::StateByte, 0)));
+        assert_eq!(answer, Err(Refusal { reason, place }));
+        let reason = Reason::RowByte;
         let answer = step(&image, &mut [0; 3], &[code], &mut [7; 6]);
-        assert_eq!(answer, Err(Refusal::new(Reason::RowByte, 0)));
+        assert_eq!(answer, Err(Refusal { reason, place }));
     }
     assert_eq!(outputs, [7]);
 }

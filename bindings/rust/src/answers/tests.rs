@@ -3,7 +3,7 @@
 use super::*;
 
 fn refused<T>(reason: Reason, place: usize) -> Result<T, Refusal> {
-    Err(Refusal::new(reason, place))
+    Err(Refusal { reason, place })
 }
 
 fn first_flow(cycle: usize, verdict: Verdict) -> Result<FirstFlow, Refusal> {

@@ -32,7 +32,7 @@ fn nets_and_indexes_are_places_and_the_others_have_none() {
 
 #[test]
 fn a_refusal_says_its_place_where_it_has_one() {
-    let words = |reason, place| Refusal::new(reason, place).to_string();
+    let words = |reason, place| Refusal { reason, place }.to_string();
     assert_eq!(
         words(Reason::ImageTooShort, 0),
         "refusal 1: the image is under 8 bytes"
