@@ -18,7 +18,7 @@ use Rattle.cycle.proofs.Calls.{starts_registers, powered_up_lem}
 use Rattle.input.specs.Rest.{whole_of, rest_of}
 use Rattle.row_runs.specs.Taking.{AcceptedState}
 use Rattle.listing_output.specs.declared.output.Progress.{Progress}
-use Rattle.listing_output.specs.Printed.{Printed, printed, blank, with_last}
+use Rattle.listing_output.specs.Printed.{Printed, blank, with_last}
 use Rattle.listing_rows.specs.Rows.{Listed, rows_up_to, rows_of, with_rows, with_end}
 use Rattle.listing_rows.specs.Taken.{Held, held, Taken, Whole}
 use Rattle.listing_rows.proofs.Taking.{rows_append, rows_closed, with_append, end_open, end_closed, taken_none, taken_then}
