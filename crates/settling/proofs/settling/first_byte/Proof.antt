@@ -20,7 +20,7 @@ small true a h = rw (one-mul a) (omega arith)
 small false a h = rw (zero-mul a) (omega arith)
 
 mul-result : tie.Need-overflow_mul-result
-mul-result c = record { fits = small (eqb c.args.kind CONST) (c.args.a % 2) (omega arith) }
+mul-result c = record { fits = small _ (c.args.a % 2) (omega arith) }
 
 low : (b : Bool) (a : ℕ) → a < 2 → bool_byte b * a < 2
 low true a h = rw (one-mul a) h

@@ -1,5 +1,5 @@
 -- `settling::settling::settle` meets its contract: a gate or OUT takes the code of the table, and another net keeps its byte.
-use Prim.Native.Nat.{ℕ, ◌+◌, ◌*◌, ◌≤◌, ◌<◌}
+use Prim.Native.Nat.{ℕ, ◌+◌, ◌*◌, ◌%◌, ◌≤◌, ◌<◌}
 use borrow.Author.Tests.{lt-leb}
 use native.Mathlib.Omega.{arith}
 use mathlib.Core.Path.{◌≡◌, ◌∙◌}
@@ -8,6 +8,7 @@ use mathlib.Core.Bool.{true}
 use lib.ListN.{length, get_or}
 use Rattle.image.specs.Image.{sizes_of, net, kind_at, operand_at}
 use Rattle.image.specs.Pins.{pin_net}
+use Rattle.image.proofs.PinNets.{net_rest}
 use Rattle.checking.proofs.Checked.{Checked, check_none}
 use Rattle.unknowns.specs.Widths.{code_by}
 use Rattle.unknowns.proofs.ByWidth.{rule_code}
@@ -49,6 +50,10 @@ reads c k h = (c.requires.1.1, h, (checked c).exact)
 named : {p q m : ℕ} → p ≡ q → pin_net q < m → pin_net p < m
 named e h = rw e h
 
+-- a place below 65,536 holds a code, where its rest by 32,768 names a net
+coded : {w : ℕ} {bs : List ℕ} {m : ℕ} → Both w bs m → (p : ℕ) → p < 65536 → p % 32768 < m → code_by w (get_or bs p 0) ≡ true
+coded both p low h = pin_coded both p (rw (← net_rest p low) h)
+
 -- the pins a, b and c as they were read
 module _ (c : tie.After-operand_of-c) where
   abbrev second : tie.After-operand_of-b
@@ -75,48 +80,71 @@ module _ (c : tie.After-operand_of-c) where
   named-c : pin_net c.operand_of-c.result < n begun
   named-c = named c.operand_of-c.ensures.0 (pins taken).c
 
-  there : (p : ℕ) → pin_net p < n begun → p < length begun.args.nets.now
-  there p h = rw begun.requires.1.2 (pin_there p few h)
+  there : (p : ℕ) → pin_net p < n begun → p < 40960
+  there p h = pin_there p few h
+
+  rest : (p : ℕ) → pin_net p < n begun → p % 32768 < n begun
+  rest p h = rw (net_rest p (omega (arith, there p h))) h
 
   both : Both begun.args.width begun.args.nets.now (n begun)
   both = begun.requires.1.3
 
 slice-read-code-by : tie.Need-bounds-nets-a
-slice-read-code-by c = let read = c.before in there read _ (named-a read)
+slice-read-code-by c = let read = c.before in omega (arith, there read _ (named-a read), (begun read).requires.1.2)
 
 slice-read-code-by-2 : tie.Need-bounds-nets-b
-slice-read-code-by-2 c = let read = c.before.before in there read _ (named-b read)
+slice-read-code-by-2 c = let read = c.before.before in omega (arith, there read _ (named-b read), (begun read).requires.1.2)
 
 slice-read-code-by-3 : tie.Need-bounds-nets-c
-slice-read-code-by-3 c = let read = c.before.before.before in there read _ (named-c read)
+slice-read-code-by-3 c = let read = c.before.before.before in omega (arith, there read _ (named-c read), (begun read).requires.1.2)
 
 -- what is read there is a code
 module _ (c : tie.After-slice_known-then-kind-ge-NOT-3-1) where
   abbrev read : tie.After-operand_of-c
   read = c.before.before.before
 
-  abbrev nets : List ℕ
-  nets = (begun read).args.nets.now
+  code-at : (p : ℕ) → p < 65536 → p % 32768 < n (begun read) → code_by (begun read).args.width (get_or (begun read).args.nets.now p 0) ≡ true
+  code-at = coded (both read)
 
-  code-a : code_by (begun read).args.width (get_or nets (first read).operand_of-a.result 0) ≡ true
-  code-a = pin_coded (both read) _ (named-a read)
+  low-a : (first read).operand_of-a.result < 40960
+  low-a = there read _ (named-a read)
 
-  code-b : code_by (begun read).args.width (get_or nets (second read).operand_of-b.result 0) ≡ true
-  code-b = pin_coded (both read) _ (named-b read)
+  low-b : (second read).operand_of-b.result < 40960
+  low-b = there read _ (named-b read)
 
-  code-c : code_by (begun read).args.width (get_or nets read.operand_of-c.result 0) ≡ true
-  code-c = pin_coded (both read) _ (named-c read)
+  low-c : read.operand_of-c.result < 40960
+  low-c = there read _ (named-c read)
+
+  rest-a : (first read).operand_of-a.result % 32768 < n (begun read)
+  rest-a = rest read _ (named-a read)
+
+  rest-b : (second read).operand_of-b.result % 32768 < n (begun read)
+  rest-b = rest read _ (named-b read)
+
+  rest-c : read.operand_of-c.result % 32768 < n (begun read)
+  rest-c = rest read _ (named-c read)
 
 code-by-requires : tie.Need-code_by-x-requires
 code-by-requires c κs =
     let at = taken (read c) in
-    (((begun (read c)).requires.0, rw at.before.kind_of-kind.ensures (pins at).kind), (code-a c, code-b c, code-c c))
+    (
+      ((begun (read c)).requires.0, rw at.before.kind_of-kind.ensures (pins at).kind),
+      (
+        code-at c _ (omega (arith, low-a c)) (omega (arith, rest-a c)),
+        code-at c _ (omega (arith, low-b c)) (omega (arith, rest-b c)),
+        code-at c _ (omega (arith, low-c c)) (omega (arith, rest-c c)),
+      ),
+    )
 
 inverse-requires : tie.Need-inverse-requires
 inverse-requires c κs =
     let gate = c.before in
     let known = gate.before in
-    rw gate.code_by-x.ensures (rule_code _ _ _ _ _ (code-a known) (code-b known) (code-c known))
+    rw gate.code_by-x.ensures
+    (rule_code _ _ _ _ _
+    (code-at known _ (omega (arith, low-a known)) (omega (arith, rest-a known)))
+    (code-at known _ (omega (arith, low-b known)) (omega (arith, rest-b known)))
+    (code-at known _ (omega (arith, low-c known)) (omega (arith, rest-c known))))
 
 put-both-requires : tie.Need-put_both-requires
 put-both-requires c κs =
