@@ -1,5 +1,6 @@
 -- `codes::codes::step_code` meets its contract: the code of the refusal fits, as is asked.
 use Prim.Native.Nat.{ℕ, ◌^◌, ◌<◌}
+use native.Mathlib.Omega.{arith}
 use mathlib.Core.Path.{sym, ap, ◌∙◌, subst}
 use borrow.Author.Rules.{rules}
 use Rattle.cycle.specs.declared.answer.StepAnswer.{StepAnswer}
@@ -12,7 +13,7 @@ abbrev code : StepAnswer → ℕ
 code a = answer_code verdict_code (step_answer_in a)
 
 refusal-code-requires : tie.Need-refusal_code-requires
-refusal-code-requires c κs = subst (λ a. code a < 2 ^ 64) c.in-Refused.is c.before.requires
+refusal-code-requires c κs = omega (arith, subst (λ a. code a < 2 ^ 64) c.in-Refused.is c.before.requires)
 
 returns : tie.Need-returns-in-Done
 returns c = c.verdict_code.ensures ∙ ap code (sym c.before.in-Done.is)

@@ -1,6 +1,6 @@
 -- `paging::refusing::lent_refusal` meets its contract: the record's bytes are tried first, then its length, and the page buffer last.
 use mathlib.Core.Path.{◌≡◌, sym, ap, ◌∙◌}
-use mathlib.Core.Option.{none}
+use mathlib.Core.Option.{none, some}
 use borrow.Author.Rules.{rules}
 use borrow.Author.Tests.{eq-eqb, ne_eqb}
 use Rattle.refusals.specs.Refusals.{refusal_in, plain_bytes, bad_byte, bad_length}
@@ -10,7 +10,8 @@ use Rattle.paging.proofs.refusing.lent_refusal.Tie as tie
 
 returns : tie.Need-returns-in-Refused
 returns c =
-    rw (sym (plain_bad 13 0 _) ∙ sym c.byte_refusal-o.ensures ∙ ap refusal_in c.in-Refused.is)
+    let bad : bad_byte plain_bytes.bad 13 0 c.args.outputs.now ≡ some c.in-Refused.r = sym (plain_bad 13 0 _) ∙ sym c.byte_refusal-o.ensures ∙ ap refusal_in c.in-Refused.is in
+    rw bad
 
 -- past the bytes
 good : (c : tie.In_default) → bad_byte plain_bytes.bad 13 0 c.args.outputs.now ≡ none
