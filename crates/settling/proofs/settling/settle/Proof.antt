@@ -126,8 +126,7 @@ module _ (c : tie.After-slice_known-then-kind-ge-NOT-3-1) where
 
 code-by-requires : tie.Need-code_by-x-requires
 code-by-requires c κs =
-    let at = taken (read c) in
-    (
+    let at = taken (read c) in (
       ((begun (read c)).requires.0, rw at.before.kind_of-kind.ensures (pins at).kind),
       (
         code-at c _ (omega (arith, low-a c)) (omega (arith, rest-a c)),
