@@ -1,6 +1,5 @@
-// The view of an image: the caller's bytes and the four counts that they begin with. Nothing is copied. The borrow checker covers no function that
-// takes, makes or holds a struct with a slice in it, so the four functions of `View`, and `sizes_of`, `kind_of` and `operand_of`, are proved by hand.
-// They are thin: the bytes are read by functions of src/image.rt, which take the slice and numbers.
+// The view of an image: the caller's bytes and the four counts that they begin with. Nothing is copied. The functions here are thin: the bytes are read by
+// functions of src/image.rt, which take the slice and numbers.
 ghost use Rattle.std.specs.Prelude.{◌≡◌, ◌+◌, ◌*◌, ◌<◌, ◌≤◌, length};
 ghost use Rattle.image.specs.Image.{sizes_of, kind_at, operand_at, net_at};
 ghost use Rattle.image.specs.View.{counts_of};
@@ -62,8 +61,7 @@ impl<'a> View<'a> {
     }
 }
 
-// The same of a slice, for callers that hold no view. The first three make a view and read through it, and `net_of` calls them; whoever calls these
-// needs no proof by hand.
+// The same of a slice, for callers that hold no view. The first three make a view and read through it, and `net_of` calls them.
 
 // N, I, R and O of an image.
 pub fn sizes_of(image: &[u8]) -> Sizes
