@@ -1,5 +1,5 @@
 -- What is printed, as the text that a reader sees: document 01's counter, and images that are refused, have no outputs or have no inputs.
-use Rattle.std.specs.Prelude.{ℕ, ◌≡◌, List, [], ◌∷◌, ◌++◌, replicate}
+use Rattle.std.specs.Prelude.{◌≡◌, [], ◌∷◌, ◌++◌, replicate}
 use Rattle.image.specs.Examples.{counter, crossed, one_input, one_const}
 use Rattle.text.specs.Ascii.{ascii}
 use Rattle.pages.specs.Printed.{pages_printed}
