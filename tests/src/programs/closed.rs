@@ -1,6 +1,7 @@
 //! Output that cannot be written: the program ends, although its input goes on
-//! for ever. What failed is said on standard error, with the system's reason,
-//! unless the signal of a broken pipe ends the program first.
+//! for ever. What failed is said on standard error, with the system's reason:
+//! a program in Rattle ignores the signal of a broken pipe, which would end it
+//! with no message.
 
 use std::fs::OpenOptions;
 use std::io::{Read, Write};
@@ -42,7 +43,8 @@ fn ends_after(mut command: Command, length: usize) -> String {
 pub fn a_closed_pipe_ends_it(program: &Program) {
     let folder = program.folder(Some(&counter()));
     for length in [0, 1, 100_000] {
-        assert_eq!(ends_after(program.command(&folder), length), "");
+        let said = ends_after(program.command(&folder), length);
+        assert_eq!(said, "standard output: Broken pipe\n");
         let said = ends_after(program.command_without_signal(&folder), length);
         assert_eq!(said, "standard output: Broken pipe\n");
     }
