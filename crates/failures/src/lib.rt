@@ -1,13 +1,19 @@
 // What is said on standard error of a read or a write that failed.
 #![tactic(auto)]
 
+ghost use Rattle.std.specs.Prelude.{◌≡◌, length, IsUtf8};
+ghost use Rattle.failures.specs.Reasons.{IsReason};
+
 use std::io::{Cursor, Error, Write};
 
 // The room for the text of an error; what does not fit is left out.
 const MOST_TEXT: usize = 256;
 
 // The reason that the text of an error begins with. The number that the system has for it stands behind that, in brackets.
-fn reason_of(text: &[u8]) -> &str {
+fn reason_of(text: &[u8]) -> &str
+    ensures reason { IsUtf8 text.now → IsReason text.now result.now }
+    ensures no_text { ¬ IsUtf8 text.now → length result.now ≡ 0 }
+{
     let Ok(whole) = str::from_utf8(text) else {
         return "";
     };

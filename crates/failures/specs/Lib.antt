@@ -1,0 +1,2 @@
+-- Terms of the contract of `reason_of`.
+pub mod Reasons
