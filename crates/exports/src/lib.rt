@@ -1,4 +1,4 @@
-// The library for C and Rust: each call of the tracker under a plain name, with one number for its answer (include/tracker.h).
+// The calls of the library for C and Rust: each call of the tracker under a plain name, with one number for its answer (include/tracker.h).
 #![tactic(auto)]
 
 ghost use Rattle.std.specs.Prelude.{◌≡◌};
@@ -13,8 +13,7 @@ ghost use Rattle.codes.specs.Codes.{outcome_code, page_code, verdict_code, first
 use codes::{figure_code, kind_code, outcome_code, page_code, run_code, step_code};
 
 // Whether an image is accepted.
-#[unsafe(no_mangle)]
-pub extern "C" fn tracker_check(image: &[u8]) -> u64
+pub fn tracker_check(image: &[u8]) -> u64
     ensures { result ≡ outcome_code (check_refusal image.now) }
 {
     let o = checking::check(image);
@@ -22,8 +21,7 @@ pub extern "C" fn tracker_check(image: &[u8]) -> u64
 }
 
 // Sets each register to its start, or, where none is given, to an untrusted 0.
-#[unsafe(no_mangle)]
-pub extern "C" fn tracker_power_up(image: &[u8], state: &mut [u8]) -> u64
+pub fn tracker_power_up(image: &[u8], state: &mut [u8]) -> u64
     ensures value { result ≡ outcome_code (power_up_of image.now state.old).refusal }
     ensures state_after { state.new ≡ (power_up_of image.now state.old).state }
 {
@@ -32,8 +30,7 @@ pub extern "C" fn tracker_power_up(image: &[u8], state: &mut [u8]) -> u64
 }
 
 // One clock cycle.
-#[unsafe(no_mangle)]
-pub extern "C" fn tracker_step(image: &[u8], state: &mut [u8], row: &[u8], nets: &mut [u8]) -> u64
+pub fn tracker_step(image: &[u8], state: &mut [u8], row: &[u8], nets: &mut [u8]) -> u64
     ensures value { result ≡ answer_code verdict_code (step_of image.now state.old row.now nets.old).answer }
     ensures state_after { state.new ≡ (step_of image.now state.old row.now nets.old).state }
     ensures nets_after { nets.new ≡ (step_of image.now state.old row.now nets.old).nets }
@@ -43,14 +40,7 @@ pub extern "C" fn tracker_step(image: &[u8], state: &mut [u8], row: &[u8], nets:
 }
 
 // k clock cycles.
-#[unsafe(no_mangle)]
-pub extern "C" fn tracker_run(
-    image: &[u8],
-    k: usize,
-    state: &mut [u8],
-    rows: &[u8],
-    outputs: &mut [u8],
-) -> u64
+pub fn tracker_run(image: &[u8], k: usize, state: &mut [u8], rows: &[u8], outputs: &mut [u8]) -> u64
     ensures value { result ≡ answer_code first_flow_code (run_of image.now state.old k rows.now outputs.old).answer }
     ensures state_after { state.new ≡ (run_of image.now state.old k rows.now outputs.old).state }
     ensures outputs_after { outputs.new ≡ (run_of image.now state.old k rows.now outputs.old).outputs }
@@ -60,8 +50,7 @@ pub extern "C" fn tracker_run(
 }
 
 // Sets each register to its start, or, where none is given, to an unknown untrusted bit.
-#[unsafe(no_mangle)]
-pub extern "C" fn tracker_static_power_up(image: &[u8], state: &mut [u8]) -> u64
+pub fn tracker_static_power_up(image: &[u8], state: &mut [u8]) -> u64
     ensures value { result ≡ outcome_code (static_power_up_of image.now state.old).refusal }
     ensures state_after { state.new ≡ (static_power_up_of image.now state.old).state }
 {
@@ -70,8 +59,7 @@ pub extern "C" fn tracker_static_power_up(image: &[u8], state: &mut [u8]) -> u64
 }
 
 // k clock cycles with unknown bits.
-#[unsafe(no_mangle)]
-pub extern "C" fn tracker_static_run(
+pub fn tracker_static_run(
     image: &[u8],
     k: usize,
     state: &mut [u8],
@@ -87,8 +75,7 @@ pub extern "C" fn tracker_static_run(
 }
 
 // The number of nets of the doubled netlist.
-#[unsafe(no_mangle)]
-pub extern "C" fn tracker_doubled_size(image: &[u8]) -> u64
+pub fn tracker_doubled_size(image: &[u8]) -> u64
     ensures { result ≡ size_code (doubled_size_of image.now) }
 {
     let d = figures::doubled_size(image);
@@ -97,8 +84,7 @@ pub extern "C" fn tracker_doubled_size(image: &[u8]) -> u64
 }
 
 // The number of nets of one kind in the doubled netlist, which is 0 for a kind above 8.
-#[unsafe(no_mangle)]
-pub extern "C" fn tracker_doubled_kind(image: &[u8], kind: usize) -> u64
+pub fn tracker_doubled_kind(image: &[u8], kind: usize) -> u64
     ensures { result ≡ kind_code (doubled_size_of image.now) kind }
 {
     let d = figures::doubled_size(image);
@@ -108,8 +94,7 @@ pub extern "C" fn tracker_doubled_kind(image: &[u8], kind: usize) -> u64
 }
 
 // The doubled netlist.
-#[unsafe(no_mangle)]
-pub extern "C" fn tracker_double(image: &[u8], buffer: &mut [u8]) -> u64
+pub fn tracker_double(image: &[u8], buffer: &mut [u8]) -> u64
     ensures value { result ≡ outcome_code (double_of image.now buffer.old).refusal }
     ensures buffer_after { buffer.new ≡ (double_of image.now buffer.old).buffer }
 {
@@ -118,8 +103,7 @@ pub extern "C" fn tracker_double(image: &[u8], buffer: &mut [u8]) -> u64
 }
 
 // The pages of a run's outputs.
-#[unsafe(no_mangle)]
-pub extern "C" fn tracker_page(image: &[u8], k: usize, outputs: &[u8], page: &mut [u8]) -> u64
+pub fn tracker_page(image: &[u8], k: usize, outputs: &[u8], page: &mut [u8]) -> u64
     ensures value { result ≡ page_code (page_of image.now k outputs.now page.old).refusal }
     ensures page_after { page.new ≡ (page_of image.now k outputs.now page.old).page }
 {
