@@ -1,5 +1,5 @@
 // The lines of the data file, executed one after the other.
-use crate::calls::{call, image};
+use crate::calls::{Lent, call_named, image};
 use cases_text::{byte_at, has_unknown_word, list, next, number, say, say_text, until};
 
 // Makes the call at p on the lists behind it.
@@ -12,16 +12,14 @@ fn make_call(rt: &impl Print, t: &[u8], p: usize) {
     let r = list(rt, t, p, b'r', &mut rows);
     let mut buffer = io::large_buffer();
     let b = list(rt, t, p, b'b', &mut buffer);
-    let k = number(t, until(t, p, b' '));
-    call(
-        rt,
-        byte_at(t, p),
-        k.value,
-        &space[..n],
-        &mut state[..s],
-        &rows[..r],
-        &mut buffer[..b],
-    );
+    let k = number(t, until(t, p, b' ')).map_or(0, |n| n.value);
+    let mut lent = Lent {
+        image: &space[..n],
+        state: &mut state[..s],
+        rows: &rows[..r],
+        buffer: &mut buffer[..b],
+    };
+    call_named(rt, byte_at(t, p), k, &mut lent);
 }
 
 // The case of the line at p: its name, which stands in quotes, is printed, and the call behind it is made.
@@ -49,17 +47,12 @@ fn line(rt: &impl Print, t: &[u8], p: usize, end: usize) {
     }
 }
 
-// All lines. A loop that is proved has to end, so its turns are counted: there are no more lines than bytes.
+// All lines. Each says where the next one begins, so there is nothing for a `for` to go over.
 pub fn execute(rt: &impl Print, t: &[u8]) {
     let mut p: usize = 0;
-    let mut left = t.len();
     while p < t.len() {
-        if left == 0 {
-            break;
-        }
         let end = next(t, until(t, p, b'\n'));
         line(rt, t, p, end);
         p = end;
-        left -= 1;
     }
 }

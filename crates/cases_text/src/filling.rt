@@ -5,41 +5,43 @@ use crate::numbers::{Numeral, number};
 use crate::print::say;
 use crate::words::place;
 
-// Behind every buffer: the place of what does not fit.
-const NOWHERE: usize = 1048576;
-
-// One byte: the place behind it.
-fn put_byte(buffer: &mut [u8], at: usize, value: usize) -> usize {
-    if at < buffer.len() {
-        if value < 256 {
-            buffer[at] = value as u8;
-            return at + 1;
-        }
-    }
-    NOWHERE
+// One byte: the place behind it, or none where it does not fit.
+fn put_byte(buffer: &mut [u8], at: usize, value: usize) -> Option<usize> {
+    let byte = u8::try_from(value).ok()?;
+    *buffer.get_mut(at)? = byte;
+    Some(at + 1)
 }
 
 // A number as one byte, or as two with the low byte first.
-fn put(buffer: &mut [u8], at: usize, value: usize, two: bool) -> usize {
+fn put(buffer: &mut [u8], at: usize, value: usize, two: bool) -> Option<usize> {
     if two {
-        let high = put_byte(buffer, at, value % 256);
+        let high = put_byte(buffer, at, value % 256)?;
         return put_byte(buffer, high, value / 256);
     }
     put_byte(buffer, at, value)
 }
 
 // A number, as many times as it is said.
-fn put_times(buffer: &mut [u8], at: usize, n: Numeral, two: bool) -> usize {
+fn put_times(buffer: &mut [u8], at: usize, n: Numeral, two: bool) -> Option<usize> {
     let mut place = at;
-    let mut left = n.times;
-    while 0 < left {
-        if NOWHERE <= place {
-            break;
-        }
-        place = put(buffer, place, n.value, two);
-        left -= 1;
+    for _ in 0..n.times {
+        place = put(buffer, place, n.value, two)?;
     }
-    place
+    Some(place)
+}
+
+// The numbers of the list at a place: the place behind the last one, or none where one does not fit. Each number says where the next one begins, so there is
+// nothing for a `for` to go over.
+fn put_list(t: &[u8], list: usize, two: bool, buffer: &mut [u8]) -> Option<usize> {
+    let mut next = list;
+    let mut at: usize = 0;
+    let mut two = two;
+    while let Some(n) = number(t, next) {
+        two ^= n.bar;
+        at = put_times(buffer, at, n, two)?;
+        next = n.next;
+    }
+    Some(at)
 }
 
 // So many bytes at the start of a buffer; none where it has fewer, which is said.
@@ -54,23 +56,11 @@ pub fn within(rt: &impl Print, n: usize, buffer: &[u8]) -> usize
 }
 
 // The list with this letter in the line at p: how many bytes it has. Numbers are one byte; those of an image are two, and behind each bar it is the other
-// way round.
+// way round. A list that does not fit counts as longer than every buffer.
 pub fn list(rt: &impl Print, t: &[u8], p: usize, letter: u8, buffer: &mut [u8]) -> usize
     ensures { IsPrefixLen result buffer.new }
 {
-    let mut next = place(rt, t, p, letter);
-    let mut at: usize = 0;
-    let mut two = letter == b'i';
-    let mut left = t.len();
-    while 0 < left {
-        let n = number(t, next);
-        if !n.found {
-            break;
-        }
-        two = two != n.bar;
-        at = put_times(buffer, at, n, two);
-        next = n.next;
-        left -= 1;
-    }
-    within(rt, at, buffer)
+    let list = place(rt, t, p, letter);
+    let end = put_list(t, list, letter == b'i', buffer);
+    within(rt, end.unwrap_or(usize::MAX), buffer)
 }

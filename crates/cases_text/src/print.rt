@@ -10,20 +10,11 @@ pub fn say_number(rt: &impl Print, name: &[u8], x: usize) {
     let _ = rt.print(x);
 }
 
-fn wide(x: u8) -> usize {
-    x as usize
-}
-
-// The bytes of s from one place to before another, each behind a blank.
-pub fn say_part(rt: &impl Print, name: &[u8], s: &[u8], from: usize, end: usize) {
+// Bytes, each behind a blank.
+pub fn say_each(rt: &impl Print, name: &[u8], s: &[u8]) {
     say(rt, name);
-    let mut i = from;
-    while i < end {
-        if s.len() <= i {
-            break;
-        }
-        say_number(rt, b" ", wide(s[i]));
-        i += 1;
+    for b in s {
+        say_number(rt, b" ", usize::from(*b));
     }
 }
 
@@ -31,31 +22,24 @@ pub fn say_part(rt: &impl Print, name: &[u8], s: &[u8], from: usize, end: usize)
 pub fn say_bytes(rt: &impl Print, name: &[u8], s: &[u8]) {
     let n = s.len();
     if n <= 64 {
-        say_part(rt, name, s, 0, n);
+        say_each(rt, name, s);
     } else {
-        say_part(rt, name, s, 0, 4);
-        say_part(rt, b" ..", s, n - 4, n);
+        say_each(rt, name, &s[..4]);
+        say_each(rt, b" ..", &s[n - 4..]);
     }
 }
 
 // The text of some lines, with | for the end of each.
 pub fn say_lines(rt: &impl Print, s: &[u8]) {
-    let mut i: usize = 0;
-    while i < s.len() {
-        if s[i] == b'\n' {
-            say(rt, b"|");
-        } else {
-            say_text(rt, s, i, i + 1);
-        }
-        i += 1;
+    for b in s {
+        let shown = if *b == b'\n' { b'|' } else { *b };
+        say(rt, &[shown]);
     }
 }
 
 // The text from one place to before another.
 pub fn say_text(rt: &impl Print, t: &[u8], from: usize, end: usize) {
-    if end <= t.len() {
-        if from <= end {
-            say(rt, &t[from..end]);
-        }
+    if let Some(text) = t.get(from..end) {
+        say(rt, text);
     }
 }

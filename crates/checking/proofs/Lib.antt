@@ -2,3 +2,4 @@
 pub mod Checked
 pub mod Encoded
 pub mod Counting
+pub mod Turns

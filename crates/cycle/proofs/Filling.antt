@@ -78,10 +78,6 @@ module _ {k : ℕ} {list : ℕ → List Net → List ℕ} {byte : ℕ → Net �
     unfolding net_at
     this_net = rw (nets_next s n i below, selection.next i (net_at s n i) (nets_left s n (i + 1)), ← add-one i)
 
-    -- what `operand_of` asks
-    pub pass_reads : (k : ℕ) → k < 3 → (i < (sizes_of s).nets) × (k < 3) × (length s ≡ 8 + 7 * (sizes_of s).nets)
-    pass_reads k h = rw (← p.count_is) (below, h, p.exact)
-
     module _ (this : kind_at s i ≡ k) where
       takes : Filled (list 0 (nets_of s)) buffer j (byte i (net_at s n i) ∷ list (i + 1) (nets_left s n (i + 1)))
       takes = rw (this_net, eq-eqb (kind_at s i) k this) at p.bytes

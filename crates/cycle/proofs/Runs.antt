@@ -2,7 +2,7 @@
 use Prim.Native.Nat.{ℕ, zero, suc, ◌+◌, ◌*◌, ◌^◌, ◌≤◌, ◌<◌}
 use native.Mathlib.Nat.{zero-mul, suc-mul, mul-le-mul}
 use native.Mathlib.Omega.{arith}
-use mathlib.Core.Path.{◌≡◌, refl, sym, ap, ◌∙◌}
+use mathlib.Core.Path.{◌≡◌, refl, sym, ◌∙◌}
 use mathlib.Core.List.{List, ◌++◌}
 use lib.ListN.{length, take, drop, length-append, length-drop}
 use lib.Seq.{drop-drop}
@@ -13,7 +13,7 @@ use Rattle.cycle.specs.Cycle.{Rules, Verdict, clear, flow, Cycle, cycle_of, cycl
 use Rattle.cycle.specs.Calls.{done, as_run}
 use Rattle.cycle.proofs.Cycles.{Kept, outputs_length}
 use Rattle.cycle.proofs.Calls.{ReadyOf, first_ready, rest_ready_by}
-use Rattle.cycle.proofs.Filling.{Filled, fill_begins, fill_part, fill_length, fill_ends}
+use Rattle.cycle.proofs.Filling.{Filled, fill_begins, fill_part, fill_ends}
 
 -- NUMBERS. Cycles times bytes of a cycle: the product fits a u64
 pub product_fits : {k m : ℕ} → k ≤ 4096 → m ≤ 8192 → k * m < 2 ^ 64
@@ -84,11 +84,6 @@ run_begins rules {s = s} {st} {k} {rows} {outputs} r l =
       first_is = refl;
       unset = refl;
     }
-
--- the outputs are as many as at the beginning
-pub all_outputs : {rules : Rules} {A : ℕ → ℕ → Type 0} {s : List ℕ} {k : ℕ} {rows begin : List ℕ} {c m : ℕ} {st outputs : List ℕ} {first : FirstFlow} {row out : ℕ}
-    → Running rules A s k rows begin c m st outputs first row out → length outputs ≡ k * (sizes_of s).outputs
-all_outputs {rules} {s = s} {k} r = fill_length r.outputs_are ∙ outputs_of_length rules (nets_of s) _ k _ _ ∙ ap (λ o. k * o) (sym r.ready.image.outputs)
 
 -- one more: its row, and what it leaves
 module _ {rules : Rules} {A : ℕ → ℕ → Type 0} {s : List ℕ} {k : ℕ} {rows begin : List ℕ} {c m : ℕ} {st outputs : List ℕ} {first : FirstFlow} {row out : ℕ}

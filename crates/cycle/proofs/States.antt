@@ -1,16 +1,19 @@
 -- The state and its count: what stands where, when a state is accepted, and that register bytes whose marks are alike have equal counts.
-use Prim.Native.Nat.{ℕ, zero, suc, ◌+◌, ◌/◌, ◌%◌, ◌≤◌, ◌<◌}
+use Prim.Native.Nat.{ℕ, zero, suc, ◌+◌, ◌*◌, ◌/◌, ◌%◌, ◌≤◌, ◌<◌}
 use native.Mathlib.Omega.{arith}
 use native.Mathlib.Numerals.{add-one}
 use mathlib.Core.Logic.{◌↔◌}
 use mathlib.Core.Path.{◌≡◌, refl, sym, ap, ap₂, ◌∙◌}
-use mathlib.Core.List.{List, [], ◌∷◌, ◌++◌, append-nil, Forall₂}
-use mathlib.Core.Bool.{Bool, true, false}
+use mathlib.Core.List.{List, [], ◌∷◌, ◌++◌, append-nil, map, Forall₂}
+use Rattle.std.specs.List.{sum}
+use Rattle.std.proofs.lemmas.List.Sums.{sum-map}
+use Rattle.std.proofs.lemmas.List.Recursion.{is_sum_by}
+use mathlib.Core.Bool.{Bool, true, false, ◌||◌, not}
 use mathlib.Core.Option.{none}
 use lib.Dec.{eqb}
 use borrow.Author.Tests.{eqb-true, eqb-false, eq-eqb, ne_eqb}
 use lib.ListN.{length, get_or, take, drop, set, length-append, length-take, length-drop, take-append-drop}
-use lib.Seq.{length-take-le, take_at, drop_at, get_or_at, get_or-append-add, take-suc, take-suc-set, drop-length, sets, sets-eq}
+use lib.Seq.{length-take-le, take_at, drop_at, get_or_at, get_or-append-add, take-suc-set, drop-length, sets, sets-eq}
 use Rattle.gates.specs.Rules.{bit, mark}
 use Rattle.gates.specs.Relations.{Agree}
 use Rattle.gates.proofs.Laws.{Code, agree_mark}
@@ -32,6 +35,20 @@ unfolding marked_count
 count_most [] = omega arith
 count_most (x ∷ xs) = let t = count_most xs in let m = bit_most (mark x) in omega arith
 
+-- the count is the sum of the marks
+pub count_sum : (rs : List ℕ) → marked_count rs ≡ sum (map (λ x. bit (mark x)) rs)
+unfolding marked_count
+count_sum rs = is_sum_by marked_count (λ x. bit (mark x)) refl (λ x xs. refl) rs ∙ sym (sum-map (λ x. bit (mark x)) rs)
+
+-- a u16 is another number exactly if one of its two bytes is another
+pub two_bytes_differ : (low high n : ℕ) → low < 256 → not (eqb (low + high * 256) n) ≡ (not (eqb low (n % 256)) || not (eqb high (n / 256)))
+two_bytes_differ low high n h = by (eqb low (n % 256)) (eqb high (n / 256)) refl refl
+  where
+    by : (p q : Bool) → eqb low (n % 256) ≡ p → eqb high (n / 256) ≡ q → not (eqb (low + high * 256) n) ≡ (not p || not q)
+    by true true e f = rw (eq-eqb (low + high * 256) n (omega (arith, eqb-true low (n % 256) e, eqb-true high (n / 256) f)))
+    by true false e f = rw (ne_eqb (low + high * 256) n (λ o. eqb-false high (n / 256) f (omega arith)))
+    by false q e f = rw (ne_eqb (low + high * 256) n (λ o. eqb-false low (n % 256) e (omega arith)))
+
 pub count_append : (xs ys : List ℕ) → marked_count (xs ++ ys) ≡ marked_count xs + marked_count ys
 unfolding marked_count
 count_append [] ys = omega arith
@@ -49,11 +66,6 @@ count_related h (Forall₂.cons {a = x} {b = y} r t) = ap₂ ◌+◌ (ap bit (h 
 
 pub count_agree : {xs ys : List ℕ} → Agree xs ys → marked_count xs ≡ marked_count ys
 count_agree = count_related (λ x y h. agree_mark h)
-
--- with one byte more: one is counted more where it is marked
-pub count_next : (rs : List ℕ) (j : ℕ) → j < length rs → marked_count (take (suc j) rs) ≡ marked_count (take j rs) + bit (mark (get_or rs j 0))
-unfolding marked_count
-count_next rs j h = rw (take-suc rs j 0 h, count_append) (omega arith)
 
 -- the first j + 1 bytes of a buffer in which byte j is set: one is counted more where that byte is marked
 pub count_set : (buffer : List ℕ) (j y : ℕ) → j < length buffer → marked_count (take (suc j) (set buffer j y)) ≡ marked_count (take j buffer) + bit (mark y)

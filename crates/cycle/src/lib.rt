@@ -4,5 +4,5 @@
 mod answer;
 mod state;
 
-pub use answer::{FirstFlow, RunAnswer, StepAnswer, Verdict};
+pub use answer::{FirstFlow, Verdict};
 pub use state::{count_marked, state_length, wrong_count};

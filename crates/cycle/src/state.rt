@@ -18,13 +18,7 @@ pub fn count_marked(registers: &[u8]) -> u16
     requires { length registers.now < 65536 }
     ensures { result ≡ marked_count registers.now }
 {
-    let mut marked: u16 = 0;
-    let mut j: usize = 0;
-    while j < registers.len() {
-        marked += mark_bit(registers[j]);
-        j += 1;
-    }
-    marked
+    registers.iter().map(|x| mark_bit(*x)).sum()
 }
 
 // Whether the count that stands behind so many registers is not the number of those that are marked.
@@ -33,7 +27,5 @@ pub fn wrong_count(registers: usize, state: &[u8]) -> bool
     ensures { result ≡ miscounted registers state.now }
 {
     let n = count_marked(&state[..registers]);
-    let low = (n % 256) as u8;
-    let high = (n / 256) as u8;
-    !(state[registers] == low) | !(state[registers + 1] == high)
+    u16::from_le_bytes([state[registers], state[registers + 1]]) != n
 }

@@ -1,4 +1,5 @@
 // The parts of a cycle, net by net: the bytes of all nets, the verdict and the clock; and the starts of power-up.
+// The image and its number of nets stay two parameters, since the public contracts of `work_out`, `verdict_of`, `take_starts` and `clock` have them so.
 #![tactic(auto)]
 
 mod nets;

@@ -1,5 +1,5 @@
 // The bytes of all nets in a cycle.
-ghost use Rattle.std.specs.Prelude.{◌≡◌, cond, ◌+◌, ◌*◌, ◌<◌, eqb, length};
+ghost use Rattle.std.specs.Prelude.{◌≡◌, cond, ◌+◌, ◌*◌, ◌<◌, eqb, length, get_or};
 ghost use Rattle.std.proofs.Math.Option.{none};
 ghost use Rattle.gates.specs.Kinds.{INPUT, REG};
 ghost use Rattle.gates.specs.Rules.{gate_byte};
@@ -11,70 +11,69 @@ ghost use Rattle.cycle.specs.Cycle.{net_byte, bytes_of};
 ghost use Rattle.cycle_parts.specs.Readable.{walk_at, Readable};
 
 use crate::pins::pin_byte;
-use gates::{INPUT, NOT, REG, gate_byte};
+use gates::{Kind, gate_byte};
 use image::{kind_of, operand_of};
 
-// A net's byte, and how many row bytes and state bytes are taken with it.
+// The row and the state of a cycle, and how many bytes of each are taken.
 #[derive(Clone, Copy)]
-struct Taken {
-    byte: u8,
+struct Taken<'a> {
+    row: &'a [u8],
     inputs: usize,
+    state: &'a [u8],
     registers: usize,
 }
 
-// The byte of net i. `inputs` row bytes and `registers` state bytes are taken already, and all nets below i have their bytes.
-fn net_byte(
-    image: &[u8],
-    i: usize,
-    t: &[u8; 576],
-    row: &[u8],
-    inputs: usize,
-    state: &[u8],
-    registers: usize,
-    nets: &[u8],
-) -> Taken
+impl<'a> Taken<'a> {
+    // The next byte of the row.
+    fn input(&mut self) -> u8
+        requires { self.old.inputs < length self.old.row.now }
+        ensures byte { result ≡ get_or self.old.row.now self.old.inputs 0 }
+        ensures after { self.new ≡ record self.old { inputs = self.old.inputs + 1 } }
+    {
+        let byte = self.row[self.inputs];
+        self.inputs += 1;
+        byte
+    }
+
+    // The next byte of the state.
+    fn register(&mut self) -> u8
+        requires { self.old.registers < length self.old.state.now }
+        ensures byte { result ≡ get_or self.old.state.now self.old.registers 0 }
+        ensures after { self.new ≡ record self.old { registers = self.old.registers + 1 } }
+    {
+        let byte = self.state[self.registers];
+        self.registers += 1;
+        byte
+    }
+}
+
+// The byte of net i. All nets below i have their bytes, and what these took of the row and the state is taken.
+fn net_byte(image: &[u8], i: usize, t: &[u8; 576], taken: &mut Taken, nets: &[u8]) -> u8
     requires gate_table { GateTable t.now }
     requires i_bound { (i < (sizes_of image.now).nets) × (length image.now ≡ 8 + 7 * (sizes_of image.now).nets) × (length nets.now ≡ (sizes_of image.now).nets) }
-    requires readable { Readable image.now (sizes_of image.now).nets row.now state.now nets.now i inputs registers }
-    ensures byte_value { result.byte
-        ≡ net_byte gate_byte (net_at image.now (sizes_of image.now).nets i) (walk_at row.now state.now nets.now i inputs registers) }
-    ensures inputs_value { result.inputs ≡ inputs + cond (eqb (kind_at image.now i) INPUT) 1 0 }
-    ensures registers_value { result.registers ≡ registers + cond (eqb (kind_at image.now i) REG) 1 0 }
+    requires readable { Readable image.now (sizes_of image.now).nets taken.old.row.now taken.old.state.now nets.now i taken.old.inputs taken.old.registers }
+    ensures byte_value { result
+        ≡ net_byte gate_byte (net_at image.now (sizes_of image.now).nets i) (walk_at taken.old.row.now taken.old.state.now nets.now i taken.old.inputs taken.old.registers) }
+    ensures taken_after { taken.new ≡ record taken.old {
+      inputs = taken.old.inputs + cond (eqb (kind_at image.now i) INPUT) 1 0;
+      registers = taken.old.registers + cond (eqb (kind_at image.now i) REG) 1 0;
+    } }
 {
     let kind = kind_of(image, i);
     let a = operand_of(image, i, 0);
-    if NOT <= kind {
+    if kind >= Kind::Not as u8 {
         let b = operand_of(image, i, 1);
         let c = operand_of(image, i, 2);
         let x = pin_byte(nets, a);
         let y = pin_byte(nets, b);
         let z = pin_byte(nets, c);
-        let byte = gate_byte(t, kind, x, y, z);
-        return Taken {
-            byte,
-            inputs,
-            registers,
-        };
-    }
-    if kind == INPUT {
-        return Taken {
-            byte: row[inputs],
-            inputs: inputs + 1,
-            registers,
-        };
-    }
-    if kind == REG {
-        return Taken {
-            byte: state[registers],
-            inputs,
-            registers: registers + 1,
-        };
-    }
-    let byte = a as u8;
-    Taken {
-        byte,
-        inputs,
-        registers,
+        gate_byte(t, kind, x, y, z)
+    } else if kind == Kind::Input as u8 {
+        taken.input()
+    } else if kind == Kind::Reg as u8 {
+        taken.register()
+    } else {
+        a as u8
     }
 }
 
@@ -90,14 +89,14 @@ pub fn work_out(image: &[u8], n: usize, t: &[u8; 576], row: &[u8], state: &[u8],
     if 1 < n {
         nets[1] = 0;
     }
-    let mut inputs: usize = 0;
-    let mut registers: usize = 0;
-    let mut i: usize = 0;
-    while i < n {
-        let x = net_byte(image, i, t, row, inputs, state, registers, nets);
-        nets[i] = x.byte;
-        inputs = x.inputs;
-        registers = x.registers;
-        i += 1;
+    let mut taken = Taken {
+        row,
+        inputs: 0,
+        state,
+        registers: 0,
+    };
+    for i in 0..n {
+        let byte = net_byte(image, i, t, &mut taken, nets);
+        nets[i] = byte;
     }
 }

@@ -8,11 +8,10 @@ use gates::inverted_if;
 use image::pin_net;
 
 // The byte of the net that a pin names, its value inverted where the pin's top bit is set. There is no branch on the bit.
+#[tactic(auto, using(image::proofs::PinNets::top_digit), unfolding(cycle::specs::Cycle::pin_byte, gates::specs::Rules::gate_byte))]
 pub fn pin_byte(nets: &[u8], p: usize) -> u8
     requires { (p < 65536) × (pin_net p < length nets.now) × (get_or nets.now (pin_net p) 0 < 4) }
     ensures { result ≡ pin_byte gate_byte nets.now p }
 {
-    let i = pin_net(p);
-    let top = p / 32768;
-    inverted_if(nets[i], top as u8)
+    inverted_if(nets[pin_net(p)], (p / 32768) as u8)
 }

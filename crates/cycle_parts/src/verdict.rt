@@ -9,7 +9,7 @@ ghost use Rattle.cycle.specs.Answers.{verdict_in};
 ghost use Rattle.cycle.specs.Cycle.{verdict_from};
 
 use cycle::Verdict;
-use gates::{OUT, marked};
+use gates::{Kind, marked};
 use image::{kind_of, operand_of};
 
 // Whether net i is a protected OUT with mark 1.
@@ -17,10 +17,7 @@ fn flows(image: &[u8], i: usize, nets: &[u8]) -> bool
     requires { (i < (sizes_of image.now).nets) × (length image.now ≡ 8 + 7 * (sizes_of image.now).nets) × (i < length nets.now) }
     ensures { result ≡ (eqb (kind_at image.now i) OUT && eqb (operand_at image.now (sizes_of image.now).nets i 1) 1 && mark (get_or nets.now i 0)) }
 {
-    if kind_of(image, i) != OUT {
-        return false;
-    }
-    (operand_of(image, i, 1) == 1) & marked(nets[i])
+    kind_of(image, i) == Kind::Out as u8 && operand_of(image, i, 1) == 1 && marked(nets[i])
 }
 
 // A flow at the lowest-numbered protected OUT with mark 1, or clear.
@@ -29,14 +26,10 @@ pub fn verdict_of(image: &[u8], n: usize, nets: &[u8]) -> Verdict
     requires n_value { (n ≡ (sizes_of image.now).nets) × (length nets.now ≡ n) }
     ensures { verdict_in result ≡ verdict_from mark 0 (nets_of image.now) nets.now }
 {
-    let mut i: usize = 0;
-    loop {
-        if n <= i {
-            break Verdict::Clear;
-        }
+    for i in 0..n {
         if flows(image, i, nets) {
-            break Verdict::Flow(i);
+            return Verdict::Flow(i);
         }
-        i += 1;
     }
+    Verdict::Clear
 }

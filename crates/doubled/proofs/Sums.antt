@@ -3,6 +3,9 @@ use Prim.Native.Nat.{ℕ, ◌+◌, ◌*◌, ◌-◌, ◌≤◌, ◌<◌}
 use mathlib.Core.Logic.{inl, inr}
 use mathlib.Core.Path.{◌≡◌, refl, ap, ◌∙◌}
 use mathlib.Core.List.{List}
+use native.Mathlib.Decide.{dec_lt}
+use borrow.Rule.Slice.PartMut.{mid_of, put_mid}
+use Rattle.std.proofs.lemmas.Grind.{elements}
 use native.Mathlib.Numerals.{add-one}
 use native.Mathlib.Omega.{arith}
 use lib.Dec.{lit≤}
@@ -14,7 +17,9 @@ use Rattle.image.specs.Pins.{pin_net, like_pin}
 use Rattle.image.proofs.Nets.{net_in, length_nets}
 use Rattle.image.proofs.Encoding.{nothing}
 use Rattle.net_checking.proofs.Passes.{kind_most, Passes, is_const, is_input, is_reg, is_not, is_and, is_or, is_xor, is_mux, is_out}
-use Rattle.checking.proofs.Checked.{AllPass, nil, cons, Checked, net_passes}
+use Rattle.std.proofs.Math.Option.{none}
+use Rattle.checking.specs.Check.{check_refusal}
+use Rattle.checking.proofs.Checked.{AllPass, nil, cons, Checked, net_passes, check_none}
 use Rattle.groups.specs.Groups.{group_lengths, group_length, group_by, group_of}
 use Rattle.doubled.specs.Doubled.{doubled_size, value_net, mark_net, value_pin, mark_pin, group_at}
 use Rattle.doubled.specs.Starts.{Starts}
@@ -76,6 +81,22 @@ module _ {s : List ℕ} (c : Checked s) where
       let x = net_in s n i nothing e h in
       rw (add-one i) (rw x at (value_next (nets_of s) i (omega (arith, length_nets s))))
 
+-- what an accepted image has: its length by its nets, few of these, each of a kind, and starts that fit a u16
+module _ (s : List ℕ) (h : check_refusal s ≡ none) where
+  pub accepted_length : length s ≡ 8 + 7 * (sizes_of s).nets
+  accepted_length = omega (arith, ((check_none s).0 h).exact)
+
+  pub accepted_few : (sizes_of s).nets ≤ 8192
+  accepted_few = ((check_none s).0 h).few_nets
+
+  pub accepted_kind : (i : ℕ) → i < (sizes_of s).nets → kind_at s i < 9
+  accepted_kind i l = kind_small ((check_none s).0 h) i refl l
+
+  pub accepted_fits : (i : ℕ) → value_net (nets_of s) i < 65536
+  accepted_fits i = starts_fit ((check_none s).0 h) i
+
+pub ruleset accepted = (accepted_length, accepted_few, accepted_kind, accepted_fits)
+
 -- SUMMED. The starts to net i stand in an array
 abbrev pub Summed : List ℕ → List Net → ℕ → Type 0
 Summed t xs i = (j : ℕ) → j ≤ i → get_or t j 0 ≡ value_net xs j
@@ -92,6 +113,15 @@ summed_next t xs i v h l e j k =
     elim (below_or j (i + 1) (omega arith)) [
       | inl m ↦ get_or-set_other t (i + 1) j v 0 (λ f. omega arith) ∙ h j (omega arith)
       | inr m ↦ rw m (get_or-set_same t (i + 1) v 0 l ∙ e)
+    ]
+
+-- behind the last net, the rest of the array is filled with the size
+pub summed_filled : (t : List ℕ) (xs : List Net) (n size m : ℕ) → Summed t xs n → length t ≡ m → n < m → ((j : ℕ) → n ≤ j → size ≡ value_net xs j) → {rest : List ℕ}
+    → rest ≡ replicate (length (mid_of (n + 1) (m - (n + 1)) t)) size → (j : ℕ) → j < m → get_or (put_mid (n + 1) (m - (n + 1)) t rest) j 0 ≡ value_net xs j
+summed_filled t xs n size m h l k e f j b =
+    elim (dec_lt j (n + 1)) [
+      | yes c ↦ grind (arith, elements, h j (omega arith))
+      | no c ↦ rw f (grind (arith, elements, e j (omega arith)))
     ]
 
 -- PINS. The value net and the mark net of net i, as the starts give them; and so what a pin becomes

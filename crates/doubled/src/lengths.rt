@@ -20,6 +20,7 @@ pub fn group_lengths() -> [u16; 9]
 
 // For each net the first net of its group, and behind the last net the doubled size: the group lengths, summed. The pin of a REG may name a later net, so
 // all of them are there before the first group is written. An accepted netlist doubles to at most 8 × 8,192 − 6 nets, which a u16 holds.
+#[tactic(auto, using(crate::proofs::Sums::accepted))]
 pub fn starts_of(image: &[u8], n: usize) -> [u16; 8193]
     requires image_value { check_refusal image.now ≡ none }
     requires n_value { n ≡ (sizes_of image.now).nets }
@@ -28,17 +29,11 @@ pub fn starts_of(image: &[u8], n: usize) -> [u16; 8193]
     let lengths = group_lengths();
     let mut starts = [0u16; 8193];
     let mut size: u16 = 0;
-    let mut i: usize = 0;
-    while i < n {
-        let kind = kind_of(image, i);
-        size += lengths[kind as usize];
-        i += 1;
-        starts[i] = size;
+    for i in 0..n {
+        size += lengths[usize::from(kind_of(image, i))];
+        starts[i + 1] = size;
     }
     // Behind the last net too: an operand that is no pin is looked up like one, and may name no net.
-    while i < 8192 {
-        i += 1;
-        starts[i] = size;
-    }
+    starts[n + 1..].fill(size);
     starts
 }

@@ -6,12 +6,6 @@ ghost use Rattle.large_groups.specs.Room.{PairFits};
 use image::pin_net;
 use large_groups::Pair;
 
-pub fn wide(x: u16) -> usize
-    ensures { (result ≡ x) × (result < 65536) }
-{
-    x as usize
-}
-
 // For a pin to net i: a pin to start i with the top bit as it has it, and one to start i + 1 less 1 without the bit.
 pub fn pair_of(starts: &[u16; 8193], p: usize) -> Pair
     requires p_bound { (p < 65536) × (pin_net p < 8192) }
@@ -20,7 +14,7 @@ pub fn pair_of(starts: &[u16; 8193], p: usize) -> Pair
 {
     let i = pin_net(p);
     Pair {
-        value: p - i + wide(starts[i]),
-        mark: wide(starts[i + 1]) - 1,
+        value: p - i + usize::from(starts[i]),
+        mark: usize::from(starts[i + 1]) - 1,
     }
 }

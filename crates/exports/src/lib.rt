@@ -16,8 +16,7 @@ use codes::{figure_code, kind_code, outcome_code, page_code, run_code, step_code
 pub fn tracker_check(image: &[u8]) -> u64
     ensures { result ≡ outcome_code (check_refusal image.now) }
 {
-    let o = checking::check(image);
-    outcome_code(o)
+    outcome_code(checking::check(image))
 }
 
 // Sets each register to its start, or, where none is given, to an untrusted 0.
@@ -25,8 +24,7 @@ pub fn tracker_power_up(image: &[u8], state: &mut [u8]) -> u64
     ensures value { result ≡ outcome_code (power_up_of image.now state.old).refusal }
     ensures state_after { state.new ≡ (power_up_of image.now state.old).state }
 {
-    let o = tracker::power_up(image, state);
-    outcome_code(o)
+    outcome_code(tracker::power_up(image, state))
 }
 
 // One clock cycle.
@@ -35,8 +33,7 @@ pub fn tracker_step(image: &[u8], state: &mut [u8], row: &[u8], nets: &mut [u8])
     ensures state_after { state.new ≡ (step_of image.now state.old row.now nets.old).state }
     ensures nets_after { nets.new ≡ (step_of image.now state.old row.now nets.old).nets }
 {
-    let a = tracker::step(image, state, row, nets);
-    step_code(a)
+    step_code(tracker::step(image, state, row, nets))
 }
 
 // k clock cycles.
@@ -45,8 +42,7 @@ pub fn tracker_run(image: &[u8], k: usize, state: &mut [u8], rows: &[u8], output
     ensures state_after { state.new ≡ (run_of image.now state.old k rows.now outputs.old).state }
     ensures outputs_after { outputs.new ≡ (run_of image.now state.old k rows.now outputs.old).outputs }
 {
-    let a = tracker::run(image, k, state, rows, outputs);
-    run_code(a)
+    run_code(tracker::run(image, k, state, rows, outputs))
 }
 
 // Sets each register to its start, or, where none is given, to an unknown untrusted bit.
@@ -54,8 +50,7 @@ pub fn tracker_static_power_up(image: &[u8], state: &mut [u8]) -> u64
     ensures value { result ≡ outcome_code (static_power_up_of image.now state.old).refusal }
     ensures state_after { state.new ≡ (static_power_up_of image.now state.old).state }
 {
-    let o = static_run::static_power_up(image, state);
-    outcome_code(o)
+    outcome_code(static_run::static_power_up(image, state))
 }
 
 // k clock cycles with unknown bits.
@@ -70,8 +65,7 @@ pub fn tracker_static_run(
     ensures state_after { state.new ≡ (static_run_of image.now state.old k rows.now outputs.old).state }
     ensures outputs_after { outputs.new ≡ (static_run_of image.now state.old k rows.now outputs.old).outputs }
 {
-    let a = static_run::static_run(image, k, state, rows, outputs);
-    run_code(a)
+    run_code(static_run::static_run(image, k, state, rows, outputs))
 }
 
 // The number of nets of the doubled netlist.
@@ -79,8 +73,7 @@ pub fn tracker_doubled_size(image: &[u8]) -> u64
     ensures { result ≡ size_code (doubled_size_of image.now) }
 {
     let d = figures::doubled_size(image);
-    let o = d.outcome;
-    figure_code(o, d.nets)
+    figure_code(d.outcome, d.nets)
 }
 
 // The number of nets of one kind in the doubled netlist, which is 0 for a kind above 8.
@@ -88,9 +81,7 @@ pub fn tracker_doubled_kind(image: &[u8], kind: usize) -> u64
     ensures { result ≡ kind_code (doubled_size_of image.now) kind }
 {
     let d = figures::doubled_size(image);
-    let o = d.outcome;
-    let kinds = d.kinds;
-    kind_code(o, kinds, kind)
+    kind_code(d.outcome, d.kinds, kind)
 }
 
 // The doubled netlist.
@@ -98,8 +89,7 @@ pub fn tracker_double(image: &[u8], buffer: &mut [u8]) -> u64
     ensures value { result ≡ outcome_code (double_of image.now buffer.old).refusal }
     ensures buffer_after { buffer.new ≡ (double_of image.now buffer.old).buffer }
 {
-    let o = doubling::double(image, buffer);
-    outcome_code(o)
+    outcome_code(doubling::double(image, buffer))
 }
 
 // The pages of a run's outputs.
@@ -107,6 +97,5 @@ pub fn tracker_page(image: &[u8], k: usize, outputs: &[u8], page: &mut [u8]) -> 
     ensures value { result ≡ page_code (page_of image.now k outputs.now page.old).refusal }
     ensures page_after { page.new ≡ (page_of image.now k outputs.now page.old).page }
 {
-    let o = paging::page(image, k, outputs, page);
-    page_code(o)
+    page_code(paging::page(image, k, outputs, page))
 }

@@ -1,4 +1,5 @@
-// The library for C and Rust, libexports.a: the calls of `exports`, each under its own name for the linker (include/tracker.h).
+// The library for C and Rust, libexports.a: the calls of `exports`, each under its own name for the linker (include/tracker.h). The interface for C needs a
+// function for each call, so those that look alike stay apart here and in `exports`.
 #![tactic(auto)]
 
 ghost use Rattle.std.specs.Prelude.{◌≡◌};

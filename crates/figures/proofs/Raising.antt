@@ -16,8 +16,8 @@ use Rattle.checking.specs.Counts.{kind_counts, raised}
 use Rattle.checking.proofs.Counting.{counts_length, count_few, raised_place, counts_raised}
 use Rattle.doubled.specs.Doubled.{doubled_size, value_net, value_pin, mark_pin, group_at, groups_from, doubled_nets}
 use Rattle.doubled.proofs.Positions.{groups_length, groups_append, value_up}
-use Rattle.figures.specs.Tables.{raised_by, NineCounts}
-use Rattle.figures.proofs.Rows.{kinds_of, row, kinds_small, group_row}
+use Rattle.figures.specs.Tables.{group_kinds, places, raised_by, NineCounts}
+use Rattle.figures.proofs.Rows.{places_next, places_none, table_long, entry_small, kinds_of, row, kinds_small, group_row}
 
 -- a place raised raises no count by more than 1
 pub raised_most : {m : ℕ} {counts : List ℕ} (k : ℕ) → k < 9 → NineCounts m counts → NineCounts (m + 1) (raised counts k)
@@ -81,3 +81,29 @@ counts_room xs i m h =
       nine = counts_length before;
       most = λ k l. omega (arith, count_few k before, groups_length xs 0 (take i xs), value_up xs i);
     }
+
+-- A ROW, place by place: at place j the counts, with whole the counts that are to come out at the end
+pub record Turn (whole : List ℕ) (end j : ℕ) (counts : List ℕ) : Type 0 where
+  pub below : j ≤ end
+  pub room : NineCounts (8192 + j) counts
+  pub left : raised_by counts (places group_kinds j end) ≡ whole
+
+module _ {whole : List ℕ} {end j : ℕ} {counts : List ℕ} (t : Turn whole end j counts) (few : end ≤ 72) where
+  -- the kind at place j, in a table that is the definition's
+  module _ {table : List ℕ} (same : table ≡ group_kinds) (h : j < end) where
+    pub turn_ready : (get_or table j 0 < 9) × NineCounts 65534 counts
+    turn_ready = (rw same (entry_small j (omega arith)), record { nine = t.room.nine; most = λ k l. omega (arith, t.room.most k l) })
+
+    pub turn_next : {more : List ℕ} → more ≡ raised counts (get_or table j 0) → Turn whole end (j + 1) more
+    unfolding raised_by
+    turn_next e =
+        let one_more : 8192 + (j + 1) ≡ 8192 + j + 1 = omega arith in
+        record {
+          below = omega arith;
+          room = rw (e, one_more) (raised_most (get_or table j 0) turn_ready.0 t.room);
+          left = rw (e, same) (rw (places_next group_kinds j end h (rw table_long few)) at t.left);
+        }
+
+  pub turns_done : end ≤ j → counts ≡ whole
+  unfolding raised_by
+  turns_done h = rw (places_none group_kinds j end h) at t.left

@@ -36,22 +36,24 @@ fn raise(counts: [u16; 9], kind: u8) -> [u16; 9]
     ensures { result ≡ raised counts kind }
 {
     let mut more = counts;
-    more[kind as usize] += 1;
+    more[usize::from(kind)] += 1;
     more
 }
 
-// The nets of one group, whose kinds stand in the table from place first up to end, two to a turn.
+// The nets of one group, whose kinds stand in the table from place first up to end, two to a turn, since one to a turn copies the counts
+// once more for each net.
 fn count_group(counts: &mut [u16; 9], kinds: &[u8; 72], first: usize, end: usize)
     requires { (kinds.now ≡ group_kinds) × (first ≤ end) × (end ≤ 72) × NineCounts 8192 counts.old }
     ensures { counts.new ≡ raised_by counts.old (places group_kinds first end) }
 {
-    let mut j = first;
-    while j + 1 < end {
+    let pairs = (end - first) / 2;
+    for pair in 0..pairs {
+        let j = first + 2 * pair;
         let one = raise(*counts, kinds[j]);
         let two = raise(one, kinds[j + 1]);
         *counts = two;
-        j += 2;
     }
+    let j = first + 2 * pairs;
     if j < end {
         let last = raise(*counts, kinds[j]);
         *counts = last;
@@ -59,6 +61,7 @@ fn count_group(counts: &mut [u16; 9], kinds: &[u8; 72], first: usize, end: usize
 }
 
 // The nets of each kind of the doubled netlist of an accepted image, group by group.
+#[tactic(auto, using(doubled::proofs::Sums::accepted))]
 pub fn count_kinds(image: &[u8], n: usize) -> [u16; 9]
     requires { (check_refusal image.now ≡ none) × (n ≡ (sizes_of image.now).nets) × (doubled_size (nets_of image.now) ≤ 8192) }
     ensures { result ≡ kind_counts (doubled_nets (nets_of image.now)) }
@@ -66,12 +69,11 @@ pub fn count_kinds(image: &[u8], n: usize) -> [u16; 9]
     let kinds = group_kinds();
     let lengths = group_lengths();
     let mut counts = [0u16; 9];
-    let mut i: usize = 0;
-    while i < n {
-        let kind = kind_of(image, i) as usize;
+    for i in 0..n {
+        let kind = usize::from(kind_of(image, i));
         let first = 8 * kind;
-        count_group(&mut counts, &kinds, first, first + lengths[kind] as usize);
-        i += 1;
+        let end = first + usize::from(lengths[kind]);
+        count_group(&mut counts, &kinds, first, end);
     }
     counts
 }

@@ -12,20 +12,18 @@ use crate::counting::count_kinds;
 use checking::check;
 use doubled::group_lengths;
 use image::{kind_of, sizes_of};
-use refusals::{Outcome, Refusal};
+use refusals::{Condition, Refusal};
 
 // The nets of the doubled netlist of an accepted image: the group lengths, summed.
+#[tactic(auto, using(doubled::proofs::Sums::accepted))]
 fn sum_lengths(image: &[u8], n: usize) -> usize
     requires { (check_refusal image.now ≡ none) × (n ≡ (sizes_of image.now).nets) }
     ensures { result ≡ doubled_size (nets_of image.now) }
 {
     let lengths = group_lengths();
-    let mut size: usize = 0;
-    let mut i: usize = 0;
-    while i < n {
-        let kind = kind_of(image, i);
-        size += lengths[kind as usize] as usize;
-        i += 1;
+    let mut size = 0;
+    for i in 0..n {
+        size += usize::from(lengths[usize::from(kind_of(image, i))]);
     }
     size
 }
@@ -35,7 +33,7 @@ fn no_size(r: Refusal) -> DoubledSize
     ensures { figures result ≡ no_figures r }
 {
     DoubledSize {
-        outcome: Outcome::Refused(r),
+        outcome: Err(r),
         nets: 0,
         bytes: 0,
         kinds: [0u16; 9],
@@ -47,20 +45,16 @@ fn no_size(r: Refusal) -> DoubledSize
 pub fn doubled_size(image: &[u8]) -> DoubledSize
     ensures { figures result ≡ doubled_size_of image.now }
 {
-    let o = check(image);
-    if let Outcome::Refused(r) = o {
+    if let Err(r) = check(image) {
         return no_size(r);
     }
     let n = sizes_of(image).nets;
     let size = sum_lengths(image, n);
     if 8192 < size {
-        return no_size(Refusal {
-            number: 15,
-            place: 0,
-        });
+        return no_size(Condition::DoubledNets.at(0));
     }
     DoubledSize {
-        outcome: Outcome::Done,
+        outcome: Ok(()),
         nets: size,
         bytes: 8 + 7 * size,
         kinds: count_kinds(image, n),

@@ -3,6 +3,7 @@ ghost use Rattle.std.specs.Prelude.{cond, ◌≡◌, ◌<◌, eqb};
 ghost use Rattle.gates.specs.Rules.{bit, mark, not_byte};
 
 // Whether the mark of a byte is 1.
+#[tactic(auto, unfolding(crate::specs::Rules::mark))]
 pub fn marked(x: u8) -> bool
     ensures { result ≡ mark x }
 {
@@ -13,13 +14,7 @@ pub fn marked(x: u8) -> bool
 pub fn mark_bit(x: u8) -> u16
     ensures { (result ≡ bit (mark x)) × (result < 2) }
 {
-    wide(x / 2 % 2)
-}
-
-fn wide(x: u8) -> u16
-    ensures { result ≡ x }
-{
-    x as u16
+    u16::from(marked(x))
 }
 
 // A byte with its value inverted where the flag is 1, and its mark unchanged.

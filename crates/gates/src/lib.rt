@@ -7,4 +7,4 @@ mod kinds;
 
 pub use bytes::{inverted_if, mark_bit, marked};
 pub use codes::{gate_byte, table};
-pub use kinds::{AND, CONST, INPUT, MUX, NOT, OR, OUT, REG, XOR};
+pub use kinds::{Kind, UnknownKind};

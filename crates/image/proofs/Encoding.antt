@@ -9,7 +9,7 @@ use lib.ListN.{length, get_or, drop, length-append, get_or-append, get_or-map, l
 use lib.Seq.{get_or-append-add, drop-cons}
 use Rattle.image.specs.declared.image.Sizes.{Sizes}
 use Rattle.image.specs.declared.image.Net.{Net}
-use Rattle.image.specs.Image.{sizes_of, u16_at, net, net_at, nets_from, nets_of, u16, size_bytes, operands, encode}
+use Rattle.image.specs.Image.{sizes_of, net, net_at, nets_from, nets_of, u16, size_bytes, operands, encode}
 
 pub operands_length : (xs : List Net) → length (operands xs) ≡ 6 * length xs
 operands_length [] = refl
@@ -62,7 +62,7 @@ module _ (z : Sizes) (xs : List Net) where
       ∙ operand_at xs i c h hc
 
   net_at_lem : (i : ℕ) → i < length xs → net_at (encode z xs) (length xs) i ≡ get_or xs i nothing
-  unfolding net_at u16_at
+  unfolding net_at
   net_at_lem i h =
       let x = get_or xs i nothing in
       let n = 8 + length xs + 6 * i in

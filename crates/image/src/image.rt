@@ -3,7 +3,7 @@ ghost use Rattle.std.specs.Prelude.{◌≡◌, ◌+◌, ◌*◌, ◌<◌, length
 ghost use Rattle.image.specs.Image.{u16_at, kind_at, operand_at};
 
 // N, I, R and O.
-#[derive(Clone, Copy)]
+#[derive(Clone, Copy, PartialEq, Eq, Debug)]
 pub struct Sizes {
     pub nets: usize,
     pub inputs: usize,
@@ -12,7 +12,7 @@ pub struct Sizes {
 }
 
 // A net as it stands in the image: its kind and its operands.
-#[derive(Clone, Copy)]
+#[derive(Clone, Copy, PartialEq, Eq, Debug)]
 pub struct Net {
     pub kind: u8,
     pub a: usize,
@@ -20,18 +20,12 @@ pub struct Net {
     pub c: usize,
 }
 
-fn wide(x: u8) -> usize
-    ensures { (result ≡ x) × (result < 256) }
-{
-    x as usize
-}
-
 // The u16 whose low byte stands at p.
 pub fn u16_at(s: &[u8], p: usize) -> usize
     requires { p + 1 < length s.now }
     ensures { (result ≡ u16_at s.now p) × (result < 65536) }
 {
-    wide(s[p]) + 256 * wide(s[p + 1])
+    usize::from(u16::from_le_bytes([s[p], s[p + 1]]))
 }
 
 // The kind of net i.

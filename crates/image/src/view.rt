@@ -7,8 +7,8 @@ ghost use Rattle.image.specs.Writing.{Fits};
 
 use crate::image::{Net, Sizes, kind_at, operand_at, u16_at};
 
-// The image, and N, I, R and O.
-#[derive(Clone, Copy)]
+// The image, and N, I, R and O. The four stand here one by one and not as a `Sizes`, since the public contracts of `operand` (`self.nets`) and `of` (`counts_of`) read them so.
+#[derive(Clone, Copy, PartialEq, Eq, Debug)]
 pub struct View<'a> {
     pub image: &'a [u8],
     pub nets: usize,
@@ -19,6 +19,7 @@ pub struct View<'a> {
 
 impl<'a> View<'a> {
     // The view of an image that has its four sizes.
+    #[tactic(auto, unfolding(crate::specs::Image::sizes_of))]
     pub fn of(image: &'a [u8]) -> View<'a>
         requires { 8 ≤ length image.now }
         ensures { (result.image ≡ image.entry) × (counts_of result ≡ sizes_of image.now) }
@@ -88,6 +89,7 @@ pub fn operand_of(image: &[u8], i: usize, k: usize) -> usize
 }
 
 // Net i of an image.
+#[tactic(auto, unfolding(crate::specs::Image::net_at))]
 pub fn net_of(image: &[u8], i: usize) -> Net
     requires { (i < (sizes_of image.now).nets) × (length image.now ≡ 8 + 7 * (sizes_of image.now).nets) }
     ensures { (result ≡ net_at image.now (sizes_of image.now).nets i) × Fits result }

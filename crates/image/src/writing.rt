@@ -11,8 +11,7 @@ pub fn put_u16(d: &mut [u8], p: usize, x: usize)
     requires { (p + 1 < length d.old) × (x < 65536) }
     ensures { d.new ≡ sets d.old p (u16 x) }
 {
-    d[p] = (x % 256) as u8;
-    d[p + 1] = (x / 256) as u8;
+    d[p..p + 2].copy_from_slice(&(x as u16).to_le_bytes());
 }
 
 // The four sizes, at the start.
@@ -38,6 +37,7 @@ fn put_operands(d: &mut [u8], p: usize, x: Net)
 }
 
 // Net i of an image of n nets: its kind, and its operands.
+#[tactic(auto, unfolding(crate::specs::Writing::put_net))]
 pub fn put_net(d: &mut [u8], n: usize, i: usize, x: Net)
     requires { (i < n) × (length d.old ≡ 8 + 7 * n) × Fits x }
     ensures { d.new ≡ put_net d.old n i x }

@@ -1,2 +1,2 @@
 -- Groups that are written net after net.
-pub mod InParts
+pub mod NetAfterNet

@@ -4,5 +4,5 @@
 mod group;
 mod pair;
 
-pub use group::{put_and, put_mux, put_or, put_two};
+pub use group::{gate, put_and, put_mux, put_or, put_two};
 pub use pair::Pair;

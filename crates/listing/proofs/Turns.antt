@@ -3,7 +3,7 @@ use Prim.Native.Nat.{ℕ, zero, suc, ◌+◌, ◌*◌, ◌/◌, ◌<◌}
 use native.Mathlib.Nat.{zero-mul, add-mul, div-mul-le_self}
 use native.Mathlib.Omega.{arith}
 use mathlib.Core.Path.{◌≡◌, refl, sym, ap, ◌∙◌}
-use mathlib.Core.Bool.{Bool, true, false, ◌||◌}
+use mathlib.Core.Bool.{Bool, true, false}
 use mathlib.Core.List.{List, [], ◌++◌, append_assoc}
 use mathlib.Core.Option.{none}
 use lib.ListN.{length, length-append, take-append-drop, replicate, length-replicate}
@@ -51,11 +51,6 @@ powered_state s st accepted size =
 
 pub lists_from : {s : List ℕ} {i : ℕ} {a b c : Held} → a ≡ b → Lists s i a c → Lists s i b c
 lists_from e t = rw (← e) t
-
--- neither of two
-pub neither_of : (p q : Bool) → (p || q) ≡ false → (p ≡ false) × (q ≡ false)
-neither_of false q h = (refl, h)
-neither_of true q h = (cc, cc)
 
 -- TURNS: of the input that was read, whole rows are taken, and the rest is an unfinished row
 pub record Turns (s : List ℕ) (i : ℕ) (before after : Held) (rest : List ℕ) : Type 0 where

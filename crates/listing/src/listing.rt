@@ -13,12 +13,12 @@ ghost use Rattle.listing.specs.Listing.{reads_none, listing_of, Listing};
 
 use checking::check;
 use cycle::state_length;
-use gates::OUT;
+use gates::Kind;
 use image::{Sizes, sizes_of};
+use listing_cycles::Netlist;
 use listing_output::{Progress, begun, print_end, print_refusal};
 use listing_turns::take_turn;
 use lists::list_nets;
-use refusals::Outcome;
 use std::io::{Read, Write};
 use tracker::power_up;
 
@@ -27,7 +27,8 @@ use tracker::power_up;
 const MOST_READS: u64 = 140737488355328;
 
 // The OUTs are listed, and the state powers up; then turns are made until the listing is closed. A listing that is still open after the most
-// reads counts as failed.
+// reads counts as failed. The image, its I and the list to fill are parameters of their own, since there is no `Netlist` before the list is
+// filled, and so are the lent buffers, as in `take_rows`, whose contract may not change.
 fn take_input<I: Read, W: Write>(
     rt: &impl Eprint,
     input: &mut I,
@@ -47,26 +48,28 @@ fn take_input<I: Read, W: Write>(
         (record { state = (power_up_of image.now state.entry.now).state; printed = blank text.old })
         (held state.exit.now text.new result) }
 {
-    list_nets(image, OUT, outs);
-    power_up(image, state);
+    list_nets(image, Kind::Out as u8, outs);
+    let _ = power_up(image, state);
+    let netlist = Netlist {
+        image,
+        inputs,
+        outs,
+    };
     let mut p = begun();
-    let mut have: usize = 0;
-    let mut reads: u64 = 0;
-    while p.open & !p.failed & (reads < MOST_READS) {
+    let mut have = 0;
+    for _read in 0..MOST_READS {
+        if !p.open || p.failed {
+            break;
+        }
         let turn = take_turn(
-            rt, input, output, image, outs, inputs, state, outputs, rows, have, p, text,
+            rt, input, output, netlist, state, outputs, rows, have, p, text,
         );
-        let next = turn.progress;
-        p = next;
+        p = turn.progress;
         have = turn.have;
-        reads += 1;
     }
     Progress {
-        cycles: p.cycles,
-        used: p.used,
-        written: p.written,
-        open: p.open,
-        failed: p.failed | p.open,
+        failed: p.failed || p.open,
+        ..p
     }
 }
 
@@ -118,12 +121,8 @@ pub fn list<I: Read, W: Write>(
     ensures result_after { reads_none image.now ≡ true → printed text.new result ≡ listing_of image.now [] text.old }
     ensures listing { result.failed ≡ false → Listing image.now text.old (printed text.new result) }
 {
-    let o = check(image);
-    match o {
-        Outcome::Done => {
-            let z = sizes_of(image);
-            list_accepted(rt, input, output, image, z, text)
-        }
-        Outcome::Refused(r) => print_refusal(rt, output, text, begun(), r),
+    match check(image) {
+        Ok(()) => list_accepted(rt, input, output, image, sizes_of(image), text),
+        Err(r) => print_refusal(rt, output, text, begun(), r),
     }
 }

@@ -1,32 +1,39 @@
 -- The verdict of a cycle is that of its output bytes at the OUTs in net order.
-use Prim.Native.Nat.{ℕ, zero, suc, ◌+◌, ◌≤◌, ◌<◌}
-use native.Mathlib.Nat.{add-zero}
-use native.Mathlib.Numerals.{add-one}
-use mathlib.Core.Path.{◌≡◌, refl, sym, ap, ◌∙◌}
+use Prim.Native.Nat.{ℕ, zero, suc, ◌<◌}
+use native.Mathlib.Omega.{arith}
+use mathlib.Core.Path.{◌≡◌, refl}
 use mathlib.Core.List.{List, ◌∷◌}
 use mathlib.Core.Bool.{Bool, true, false, ◌&&◌, cond}
 use lib.Dec.{eqb}
-use lib.ListN.{length, get_or, drop, drop_of_length-le}
-use lib.Seq.{drop-cons, get_or-drop, drop-drop}
+use lib.ListN.{get_or}
+use borrow.Author.Tests.{eqb-true}
+use Rattle.std.specs.Prelude.{All}
+use Rattle.std.proofs.lemmas.List.Elements.{All-from_get_or}
 use Rattle.gates.specs.Kinds.{OUT}
 use Rattle.gates.specs.Rules.{mark}
 use Rattle.image.specs.Image.{sizes_of, operand_at, net_at, nets_from, nets_of}
 use Rattle.image.specs.Places.{places_from}
-use Rattle.cycle.specs.Cycle.{Verdict, clear, flow, verdict_from, outputs_from}
-use Rattle.listing_cycles.specs.ByOutputs.{verdict_by}
+use Rattle.cycle.specs.Cycle.{Verdict, flow, verdict_from, outputs_from}
+use Rattle.lists.proofs.Placing.{listed_places}
+use Rattle.listing_cycles.specs.ByOutputs.{Outs, verdict_by}
 
--- the OUT at place j decides, or leaves the verdict to those after it
-pub verdict_next : (s outs bytes : List ℕ) (j : ℕ) → j < length outs
-    → verdict_by s (drop j outs) (drop j bytes)
-    ≡ cond (eqb (operand_at s (sizes_of s).nets (get_or outs j 0) 1) 1 && mark (get_or bytes j 0)) (flow (get_or outs j 0)) (verdict_by s (drop (j + 1) outs) (drop (j + 1) bytes))
-unfolding verdict_by
-verdict_next s outs bytes j h =
-    let e : drop j outs ≡ get_or outs j 0 ∷ drop (j + 1) outs = drop-cons outs j 0 h ∙ ap (λ m. get_or outs j 0 ∷ drop m outs) (sym (add-one j)) in
-    rw (e, verdict_by, get_or-drop, add-zero, drop-drop)
+-- the listed OUTs are nets
+pub outs_nets : {s outs : List ℕ} → Outs s outs → All (λ i. i < (sizes_of s).nets) outs
+outs_nets {s} {outs} h = All-from_get_or (λ i. i < (sizes_of s).nets) outs 0 (λ k l. (listed_places s refl OUT h.listed).within.below k l)
 
-pub verdict_done : (s outs bytes : List ℕ) (j : ℕ) → length outs ≤ j → verdict_by s (drop j outs) bytes ≡ clear
+-- of those that are left, the first and the others
+pub nets_left : {n i : ℕ} {these others : List ℕ} → these ≡ i ∷ others → All (λ j. j < n) these → (i < n) × All (λ j. j < n) others
+nets_left e h = let all = rw e at h in (all 0 0 (omega arith), λ k d l. all (suc k) d (omega arith))
+
+-- an OUT that draws no flow leaves the verdict to those after it
+pub verdict_passed : (s : List ℕ) {i y : ℕ} {these bytes others later : List ℕ} → these ≡ i ∷ others → bytes ≡ y ∷ later
+    → (operand_at s (sizes_of s).nets i 1 ≡ 1 → mark y ≡ false) → verdict_by s others later ≡ verdict_by s these bytes
 unfolding verdict_by
-verdict_done s outs bytes j h = ap (λ l. verdict_by s l bytes) (drop_of_length-le outs h)
+verdict_passed s {i} {y} {others = others} {later = later} e f clean = rw (e, f) (by (eqb (operand_at s (sizes_of s).nets i 1) 1) refl)
+  where
+    by : (b : Bool) → eqb (operand_at s (sizes_of s).nets i 1) 1 ≡ b → verdict_by s others later ≡ cond (b && mark y) (flow i) (verdict_by s others later)
+    by false t = refl
+    by true t = rw (clean (eqb-true _ _ t))
 
 module _ (s : List ℕ) where
   -- a net that is an OUT or not

@@ -1,5 +1,5 @@
 -- Terms of the contracts between the functions that print the cycles of a run: their lines by their output bytes, which stand one after another.
-use Rattle.std.specs.Prelude.{ℕ, zero, suc, ◌≡◌, List, [], ◌∷◌, ◌&&◌, cond, eqb, length, get_or, take, drop}
+use Rattle.std.specs.Prelude.{ℕ, zero, suc, ◌≡◌, ◌<◌, List, [], ◌∷◌, ◌&&◌, cond, eqb, length, get_or, take, drop}
 use Rattle.std.proofs.Math.Option.{none}
 use Rattle.gates.specs.Kinds.{OUT}
 use Rattle.gates.specs.Rules.{mark}
@@ -13,6 +13,12 @@ use Rattle.listing_output.specs.Printed.{Printed, with_cycle}
 pub record Outs (s list : List ℕ) : Type 0 where
   pub accepted : check_refusal s ≡ none
   pub listed : list ≡ places_from OUT 0 (nets_of s)
+
+-- an accepted image, the list of its OUTs, and i, its I, which is not 0
+pub record Known (s : List ℕ) (i : ℕ) (list : List ℕ) : Type 0 where
+  pub outs : Outs s list
+  pub inputs : i ≡ (sizes_of s).inputs
+  pub some : 0 < i
 
 -- the verdict of a cycle by its output bytes: a flow at the first of the listed OUTs that is protected and whose byte has mark 1; clear where there is none
 unfoldable pub verdict_by : (s outs bytes : List ℕ) → Verdict

@@ -5,3 +5,4 @@ mod cycles;
 mod outs;
 
 pub use cycles::print_cycles;
+pub use outs::Netlist;

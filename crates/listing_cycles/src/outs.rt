@@ -1,26 +1,34 @@
 // The verdict of a cycle, by its output bytes at the OUTs of its image.
 ghost use Rattle.std.specs.Prelude.{◌≡◌, length};
 ghost use Rattle.cycle.specs.Answers.{verdict_in};
-ghost use Rattle.listing_cycles.specs.ByOutputs.{Outs, verdict_by};
+ghost use Rattle.listing_cycles.specs.ByOutputs.{Known, verdict_by};
 
 use cycle::Verdict;
 use gates::marked;
 use image::operand_of;
 
-// The verdict of a cycle, by its output bytes.
-pub fn verdict_by(image: &[u8], outs: &[u16], bytes: &[u8]) -> Verdict
-    requires { Outs image.now outs.now × (length bytes.now ≡ length outs.now) }
-    ensures { verdict_in result ≡ verdict_by image.now outs.now bytes.now }
-{
-    let mut j: usize = 0;
-    loop {
-        if outs.len() <= j {
-            break Verdict::Clear;
+// An accepted image, its I, which is not 0, and the list of its OUTs.
+#[derive(Clone, Copy)]
+pub struct Netlist<'a> {
+    pub image: &'a [u8],
+    pub inputs: usize,
+    pub outs: &'a [u16],
+    ghost known: { Known image.now inputs outs.now },
+}
+
+impl Netlist<'_> {
+    // The verdict of a cycle, by its output bytes.
+    #[tactic(auto, unfolding(crate::specs::ByOutputs::verdict_by))]
+    pub fn verdict_by(self, bytes: &[u8]) -> Verdict
+        requires { length bytes.now ≡ length self.outs.now }
+        ensures { verdict_in result ≡ verdict_by self.entry.image.now self.entry.outs.now bytes.now }
+    {
+        for (i, byte) in self.outs.iter().zip(bytes) {
+            let i = usize::from(*i);
+            if operand_of(self.image, i, 1) == 1 && marked(*byte) {
+                return Verdict::Flow(i);
+            }
         }
-        let i = outs[j] as usize;
-        if (operand_of(image, i, 1) == 1) & marked(bytes[j]) {
-            break Verdict::Flow(i);
-        }
-        j += 1;
+        Verdict::Clear
     }
 }

@@ -1,5 +1,5 @@
 -- Where the next line goes in the text, and that a line is put there.
-use Prim.Native.Nat.{ℕ, ◌+◌, ◌-◌, ◌≤◌, ◌<◌}
+use Prim.Native.Nat.{ℕ, ◌+◌, ◌-◌, ◌≤◌}
 use native.Mathlib.Omega.{arith}
 use mathlib.Core.Path.{◌≡◌, refl, ap, ◌∙◌}
 use mathlib.Core.Bool.{Bool, true, false, cond}
@@ -7,7 +7,7 @@ use mathlib.Core.List.{List}
 use lib.Dec.{ltb}
 use lib.ListN.{length}
 use lib.Seq.{sets, length-sets}
-use borrow.Author.Tests.{ltb-false, lt-ltb, le-ltb}
+use borrow.Author.Tests.{ltb-false, le-ltb}
 use Rattle.refusals.specs.declared.answer.Refusal.{Refusal}
 use Rattle.cycle.specs.Cycle.{Verdict}
 use Rattle.text.specs.Put.{Put, put, did}
@@ -18,16 +18,12 @@ use Rattle.listing_text.proofs.Lengths.{end_length, refused_length}
 use Rattle.listing_output.specs.declared.output.Progress.{Progress}
 use Rattle.listing_output.specs.Printed.{Printed, printed, next_place, place_in, with_cycle, with_last, Room}
 
--- the text is written out first where the longest line might not fit, and otherwise stays
-pub next_first : (n used : ℕ) → n - used < 8240 → next_place n used ≡ 0
-unfolding next_place
-next_first n used h = rw (lt-ltb (n - used) 8240 h)
-
+-- the next line goes behind those that are there where the longest line fits
 pub next_behind : (n used : ℕ) → 8240 ≤ n - used → next_place n used ≡ used
 unfolding next_place
 next_behind n used h = rw (le-ltb (n - used) 8240 h)
 
--- so the longest line has room
+-- at the next place the longest line has room
 next_room : (n used : ℕ) → 8240 ≤ n → used ≤ n → next_place n used + 8240 ≤ n
 unfolding next_place
 next_room n used h k = by (ltb (n - used) 8240) refl

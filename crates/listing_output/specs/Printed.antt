@@ -1,7 +1,10 @@
 -- What the listing program prints, line by line: the text in which lines are gathered, and where the next line goes in it. `sets d p ys` is d with the bytes ys from place p on.
 use Rattle.std.specs.Prelude.{ℕ, ◌+◌, ◌-◌, ◌≤◌, ◌≡◌, List, Bool, true, false, cond, ltb, length}
 use Rattle.std.proofs.lemmas.List.Edits.{sets}
+use denote.Ref.{MutBor}
+use denote.Param.Members.{Once}
 use Rattle.cycle.specs.Cycle.{Verdict}
+use Rattle.text.specs.Put.{put, did}
 use Rattle.listing_text.specs.Lines.{cycle_line}
 use Rattle.listing_output.specs.declared.output.Progress.{Progress}
 
@@ -56,3 +59,9 @@ pub record Grown (text : List ℕ) (k : ℕ) (before after : Progress) : Type 0 
   pub room : Room text after
   pub cycles : after.cycles ≡ before.cycles + k
   pub failed : before.failed ≡ true → after.failed ≡ true
+
+-- a call of f, at a text and a place, puts a line of at most 8,240 bytes there
+abbrev pub Puts : {F : Type 0} → Once F (MutBor (List ℕ) × (ℕ × Unit {0})) (ℕ × (MutBor (List ℕ) × Unit {0})) → F → (line : List ℕ) → Type 0
+Puts g f line =
+    (length line ≤ 8240)
+    × ((before after : MutBor (List ℕ)) (at used : ℕ) → g.post f (before, (at, tt)) (used, (after, tt)) → did after.now used ≡ put before.now at line)

@@ -1,8 +1,8 @@
 // Writing: lines are gathered in a text, which is written out when it has no room for another line, and when the input pauses.
-ghost use Rattle.std.specs.Prelude.{◌≡◌, true, false, ◌+◌, ◌-◌, ◌≤◌, ◌<◌, ◌^◌, length};
+ghost use Rattle.std.specs.Prelude.{◌≡◌, ℕ, List, true, false, ◌+◌, ◌-◌, ◌≤◌, ◌<◌, ◌^◌, length};
 ghost use Rattle.cycle.specs.Answers.{verdict_in};
 ghost use Rattle.listing_text.specs.Lines.{end_line, refused_line};
-ghost use Rattle.listing_output.specs.Printed.{printed, next_place, closed, with_cycle, with_last, Room};
+ghost use Rattle.listing_output.specs.Printed.{printed, next_place, with_cycle, with_last, Room, Puts};
 
 use cycle::Verdict;
 use failures::say_failure;
@@ -15,8 +15,8 @@ const LONGEST: usize = 8240;
 
 // How far the listing has come: the number of cycles that are printed, how many bytes of the text are lines, how many of these are written
 // out, whether the listing is open, that is, its last line is not printed yet, and whether a read or a write failed: no line follows then
-// either.
-#[derive(Clone, Copy)]
+// either. The two flags stay: `begun`, `print_cycle` and `print_end` speak of them.
+#[derive(Clone, Copy, Debug, PartialEq, Eq)]
 pub struct Progress {
     pub cycles: u64,
     pub used: usize,
@@ -44,22 +44,15 @@ pub fn write_out<W: Write>(rt: &impl Eprint, output: &mut W, text: &[u8], p: Pro
     ensures result_value { (printed text.now result ≡ printed text.now p) × (result.written ≡ result.used) }
     ensures failed_value { p.failed ≡ true → result.failed ≡ true }
 {
-    let mut failed = p.failed;
-    if !failed {
-        let from = p.written;
-        let end = p.used;
-        let written = output.write_all(&text[from..end]);
-        if let Err(error) = written {
-            say_failure(rt, "standard output", &error);
-            failed = true;
-        }
-    }
+    let failed = p.failed
+        || output
+            .write_all(&text[p.written..p.used])
+            .inspect_err(|error| say_failure(rt, "standard output", error))
+            .is_err();
     Progress {
-        cycles: p.cycles,
-        used: p.used,
         written: p.used,
-        open: p.open,
         failed,
+        ..p
     }
 }
 
@@ -69,17 +62,15 @@ fn empty<W: Write>(rt: &impl Eprint, output: &mut W, text: &[u8], p: Progress) -
     ensures used_value { (result.used ≡ 0) × (result.written ≡ 0) × (result.cycles ≡ p.cycles) × (result.open ≡ p.open) }
     ensures failed_value { p.failed ≡ true → result.failed ≡ true }
 {
-    let q = write_out(rt, output, text, p);
     Progress {
-        cycles: q.cycles,
         used: 0,
         written: 0,
-        open: q.open,
-        failed: q.failed,
+        ..write_out(rt, output, text, p)
     }
 }
 
 // Writes out the text where the next line might not fit behind its lines.
+#[tactic(auto, unfolding(crate::specs::Printed::next_place))]
 fn make_room<W: Write>(rt: &impl Eprint, output: &mut W, text: &[u8], p: Progress) -> Progress
     requires { (p.written ≤ p.used) × (p.used ≤ length text.now) }
     ensures used_value { (result.used ≡ next_place (length text.now) p.used) × (result.written ≤ result.used) × (result.cycles ≡ p.cycles) × (result.open ≡ p.open) }
@@ -111,36 +102,32 @@ pub fn print_cycle<W: Write>(
     Progress {
         cycles: q.cycles + 1,
         used,
-        written: q.written,
-        open: q.open,
-        failed: q.failed,
+        ..q
     }
 }
 
-// Writes out the last line, which ends at a place, and what is before it. The listing is closed then.
-fn write_last<W: Write>(
+// A last line, which `put_line` puts into a text at a place. It is written out with what is before it, and the listing is closed then.
+fn print_last<W: Write, F: FnOnce(&mut [u8], usize) -> usize>(
     rt: &impl Eprint,
     output: &mut W,
-    text: &[u8],
+    text: &mut [u8],
     p: Progress,
-    used: usize,
+    put_line: F,
 ) -> Progress
-    requires { (p.written ≤ used) × (used ≤ length text.now) }
-    ensures result_value { (printed text.now result ≡ closed (printed text.now p)) × (result.written ≡ 0) }
-    ensures failed_value { p.failed ≡ true → result.failed ≡ true }
+    requires room { Room text.old p }
+    requires callable { F.IsAlwaysCallable put_line }
+    requires puts { (line : List ℕ) × Puts F.FnOnce put_line line }
+    ensures result_after { (line : List ℕ) → Puts F.FnOnce put_line line → printed text.new result ≡ with_last line (printed text.old p) }
+    ensures failed_value { (p.failed ≡ true → result.failed ≡ true) × (result.written ≡ 0) }
 {
-    empty(
-        rt,
-        output,
-        text,
-        Progress {
-            cycles: p.cycles,
-            used,
-            written: p.written,
-            open: false,
-            failed: p.failed,
-        },
-    )
+    let q = make_room(rt, output, text, p);
+    let used = put_line(text, q.used);
+    let last = Progress {
+        used,
+        open: false,
+        ..q
+    };
+    empty(rt, output, text, last)
 }
 
 // The last line, with the number of cycles.
@@ -154,9 +141,7 @@ pub fn print_end<W: Write>(
     ensures result_after { printed text.new result ≡ with_last (end_line p.cycles) (printed text.old p) }
     ensures failed_value { (p.failed ≡ true → result.failed ≡ true) × (result.written ≡ 0) }
 {
-    let q = make_room(rt, output, text, p);
-    let used = end_line(text, q.used, q.cycles);
-    write_last(rt, output, text, q, used)
+    print_last(rt, output, text, p, |text, at| end_line(text, at, p.cycles))
 }
 
 // The last line of a listing that turned back.
@@ -171,7 +156,11 @@ pub fn print_refusal<W: Write>(
     ensures result_after { printed text.new result ≡ with_last (refused_line refusal) (printed text.old p) }
     ensures failed_value { (p.failed ≡ true → result.failed ≡ true) × (result.written ≡ 0) }
 {
-    let q = make_room(rt, output, text, p);
-    let used = refused_line(text, q.used, refusal);
-    write_last(rt, output, text, q, used)
+    print_last(
+        rt,
+        output,
+        text,
+        p,
+        |text, at| refused_line(text, at, refusal),
+    )
 }

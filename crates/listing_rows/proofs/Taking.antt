@@ -3,7 +3,7 @@ use Prim.Native.Nat.{ℕ, zero, suc, ◌+◌, ◌*◌, ◌≤◌, ◌<◌}
 use native.Mathlib.Omega.{arith}
 use native.Mathlib.Nat.{suc-mul, zero-mul}
 use mathlib.Core.Path.{◌≡◌, refl, sym, ap, ◌∙◌}
-use mathlib.Core.Bool.{Bool, true, false, ◌&&◌, not, cond}
+use mathlib.Core.Bool.{Bool, true, false, cond}
 use mathlib.Core.List.{List, [], ◌∷◌, ◌++◌}
 use lib.Dec.{ltb}
 use lib.ListN.{length, take, drop, length-append, length-drop}
@@ -13,22 +13,6 @@ use Rattle.listing_text.specs.Lines.{end_line}
 use Rattle.listing_output.specs.Printed.{Printed, with_last}
 use Rattle.listing_rows.specs.Rows.{Listed, with_row, with_short, rows_up_to, rows_of, with_rows, with_end}
 use Rattle.listing_rows.specs.Taken.{Held, Taken}
-
--- TESTS: a listing that goes on without a failure, and a third test
-pub goes_on_lem : (p q r : Bool) → ((p && not q) && r) ≡ true → (p ≡ true) × (q ≡ false) × (r ≡ true)
-goes_on_lem true false r h = (refl, refl, h)
-goes_on_lem true true r h = (cc, cc, cc)
-goes_on_lem false q r h = (cc, cc, cc)
-
-pub goes_no_further : (p q r : Bool) → ((p && not q) && r) ≡ false → p ≡ true → q ≡ false → r ≡ false
-goes_no_further true false r h e f = h
-goes_no_further true true r h e f = cc
-goes_no_further false q r h e f = cc
-
--- what would have failed did not, since nothing failed
-pub none_failed : (b c : Bool) → (b ≡ true → c ≡ true) → c ≡ false → b ≡ false
-none_failed false c f h = refl
-none_failed true c f h = cc (f refl)
 
 -- a choice whose test is known
 chosen : {A : Type 0} (b : Bool) (x y : A) → b ≡ true → cond b x y ≡ x

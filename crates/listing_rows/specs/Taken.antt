@@ -4,14 +4,8 @@ use Rattle.image.specs.Image.{sizes_of}
 use Rattle.row_runs.specs.Taking.{AcceptedState}
 use Rattle.listing_output.specs.declared.output.Progress.{Progress}
 use Rattle.listing_output.specs.Printed.{Printed, printed, Room}
-use Rattle.listing_cycles.specs.ByOutputs.{Outs}
+use Rattle.listing_cycles.specs.ByOutputs.{Known}
 use Rattle.listing_rows.specs.Rows.{Listed, with_rows}
-
--- an accepted image, the list of its OUTs, and i, its I, which is not 0
-pub record Known (s : List ℕ) (i : ℕ) (list : List ℕ) : Type 0 where
-  pub outs : Outs s list
-  pub inputs : i ≡ (sizes_of s).inputs
-  pub some : 0 < i
 
 -- what the code holds of a listing: the state, and what is printed. Output bytes are printed with their row, and no later line depends on them
 pub record Held : Type 0 where

@@ -2,24 +2,17 @@
 ghost use Rattle.std.specs.Prelude.{◌≡◌, false, ◌+◌, ◌*◌, ◌≤◌, ◌<◌, ◌^◌, length};
 ghost use Rattle.row_runs.specs.Taking.{AcceptedState};
 ghost use Rattle.listing_output.specs.Printed.{Room};
+ghost use Rattle.listing_cycles.specs.ByOutputs.{Known};
 ghost use Rattle.listing_rows.specs.Rows.{rows_of};
-ghost use Rattle.listing_rows.specs.Taken.{held, Whole, Known, Taken, Asks, Leaves};
+ghost use Rattle.listing_rows.specs.Taken.{held, Whole, Taken, Asks, Leaves};
 
-use listing_cycles::print_cycles;
+use listing_cycles::{Netlist, print_cycles};
 use listing_output::{Progress, print_refusal};
-use refusals::Outcome;
 use row_runs::run_rows;
 use std::io::Write;
 
 // The most cycles of one run.
 const MOST_CYCLES: usize = 4096;
-
-// The lesser of two numbers.
-fn least(x: usize, y: usize) -> usize
-    ensures { (result ≤ x) × (result ≤ y) × (0 < x → 0 < y → 0 < result) }
-{
-    if x < y { x } else { y }
-}
 
 // The most rows that one run takes: 4,096, and no more than the buffer for output bytes has room for.
 fn most_rows(outputs: usize, bytes: usize) -> usize
@@ -29,7 +22,7 @@ fn most_rows(outputs: usize, bytes: usize) -> usize
     if outputs == 0 {
         return MOST_CYCLES;
     }
-    least(MOST_CYCLES, bytes / outputs)
+    MOST_CYCLES.min(bytes / outputs)
 }
 
 // At most 4,096 rows: one run, and a line for each of its cycles. Where a row has a bad byte, the rows before it are run, and its refusal is
@@ -37,9 +30,7 @@ fn most_rows(outputs: usize, bytes: usize) -> usize
 fn take_many<W: Write>(
     rt: &impl Eprint,
     output: &mut W,
-    image: &[u8],
-    outs: &[u16],
-    inputs: usize,
+    netlist: Netlist,
     k: usize,
     state: &mut [u8],
     rows: &[u8],
@@ -47,23 +38,25 @@ fn take_many<W: Write>(
     p: Progress,
     text: &mut [u8],
 ) -> Progress
-    requires { Asks image.now inputs k outs.now state.old rows.now outputs.old text.old p }
-    ensures taken { Taken image.now inputs (rows_of inputs rows.now)
+    requires { Asks netlist.image.now netlist.inputs k netlist.outs.now state.old rows.now outputs.old text.old p }
+    ensures taken { Taken netlist.entry.image.now netlist.entry.inputs (rows_of netlist.entry.inputs rows.now)
         (held state.old text.old p) (held state.new text.new result) }
-    ensures leaves { Leaves image.now state.new text.new k p result }
+    ensures leaves { Leaves netlist.entry.image.now state.new text.new k p result }
 {
-    let ran = run_rows(image, inputs, outs.len(), k, state, rows, outputs);
+    let each = netlist.outs.len();
+    let ran = run_rows(netlist.image, netlist.inputs, each, k, state, rows, outputs);
     let good = ran.good;
-    let filled = good * outs.len();
-    let q = print_cycles(rt, output, image, outs, good, &outputs[..filled], p, text);
-    let o = ran.outcome;
-    match o {
-        Outcome::Done => q,
-        Outcome::Refused(r) => print_refusal(rt, output, text, q, r),
+    let filled = good * each;
+    let q = print_cycles(rt, output, netlist, good, &outputs[..filled], p, text);
+    match ran.outcome {
+        Ok(()) => q,
+        Err(r) => print_refusal(rt, output, text, q, r),
     }
 }
 
 // Whole rows, by as few runs as their number and the buffer for output bytes allow. No row follows a last line or a write that failed.
+// The image, its OUTs and its I are parameters of their own, and so are the lent buffers, since this contract, which may not change, names
+// them one by one.
 pub fn take_rows<W: Write>(
     rt: &impl Eprint,
     output: &mut W,
@@ -83,27 +76,29 @@ pub fn take_rows<W: Write>(
     ensures leaves { Leaves image.now state.new text.new (length rows.now) begin result }
 {
     let most = most_rows(outs.len(), outputs.len());
+    let netlist = Netlist {
+        image,
+        inputs,
+        outs,
+    };
     let mut p = begin;
-    let mut from: usize = 0;
-    while p.open & !p.failed & (from < rows.len()) {
-        let k = least(most, (rows.len() - from) / inputs);
-        let end = from + k * inputs;
+    for piece in rows.chunks(most * inputs) {
+        if !p.open || p.failed {
+            return p;
+        }
+        let k = piece.len() / inputs;
         let filled = k * outs.len();
-        let next = take_many(
+        p = take_many(
             rt,
             output,
-            image,
-            outs,
-            inputs,
+            netlist,
             k,
             state,
-            &rows[from..end],
+            piece,
             &mut outputs[..filled],
             p,
             text,
         );
-        p = next;
-        from = end;
     }
     p
 }

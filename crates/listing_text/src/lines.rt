@@ -1,6 +1,7 @@
 // The three kinds of lines. A line is put at a place of a lent buffer, and the answer is the place behind it; where the line does not fit,
 // nothing is written and the answer is the place itself.
-ghost use Rattle.std.specs.Prelude.{◌≡◌, ◌+◌, ◌≤◌, length};
+ghost use Rattle.std.specs.Prelude.{◌≡◌, ◌+◌, ◌≤◌, ◌<◌, length};
+ghost use Rattle.std.specs.Fn.{FnOnceTakesAtMut, FnOnceReturnsAtMut};
 ghost use Rattle.std.proofs.lemmas.List.Edits.{sets};
 ghost use Rattle.cycle.specs.Answers.{verdict_in};
 ghost use Rattle.text.specs.Put.{put, did};
@@ -10,6 +11,24 @@ use crate::pieces::{outputs_length, put_outputs, put_verdict, verdict_length};
 use cycle::Verdict;
 use refusals::Refusal;
 use text::{digit_count, fits, put_number, put_numbered, put_text};
+
+// Puts a line of so many bytes where they fit, and leaves the buffer as it is where they do not.
+fn put_where_it_fits<F: FnOnce(&mut [u8]) -> usize>(
+    buffer: &mut [u8],
+    at: usize,
+    bytes: usize,
+    put_line: F,
+) -> usize
+    requires { at + bytes ≤ length buffer.old → FnOnceTakesAtMut F.FnOnce put_line buffer.old }
+    ensures put_there { at + bytes ≤ length buffer.old → FnOnceReturnsAtMut F.FnOnce put_line buffer.old result buffer.new }
+    ensures left { length buffer.old < at + bytes → (buffer.new ≡ buffer.old) × (result ≡ at) }
+{
+    if fits(buffer, at, bytes) {
+        put_line(buffer)
+    } else {
+        at
+    }
+}
 
 // The line of a cycle, where there is room for it.
 fn put_cycle(buffer: &mut [u8], at: usize, cycle: u64, outputs: &[u8], verdict: Verdict) -> usize
@@ -37,11 +56,9 @@ pub fn cycle_line(
         ≡ put buffer.old at (cycle_line cycle outputs.now (verdict_in verdict)) }
 {
     let bytes = digit_count(cycle) + outputs_length(outputs) + verdict_length(verdict) + 3;
-    if fits(buffer, at, bytes) {
+    put_where_it_fits(buffer, at, bytes, |buffer| {
         put_cycle(buffer, at, cycle, outputs, verdict)
-    } else {
-        at
-    }
+    })
 }
 
 // The last line, where there is room for it.
@@ -59,11 +76,7 @@ pub fn end_line(buffer: &mut [u8], at: usize, cycles: u64) -> usize
     ensures { did buffer.new result ≡ put buffer.old at (end_line cycles) }
 {
     let bytes = digit_count(cycles) + 5;
-    if fits(buffer, at, bytes) {
-        put_end(buffer, at, cycles)
-    } else {
-        at
-    }
+    put_where_it_fits(buffer, at, bytes, |buffer| put_end(buffer, at, cycles))
 }
 
 // The line of a refusal, where there is room for it.
@@ -82,9 +95,5 @@ pub fn refused_line(buffer: &mut [u8], at: usize, refusal: Refusal) -> usize
     ensures { did buffer.new result ≡ put buffer.old at (refused_line refusal) }
 {
     let bytes = digit_count(refusal.number as u64) + digit_count(refusal.place as u64) + 10;
-    if fits(buffer, at, bytes) {
-        put_refused(buffer, at, refusal)
-    } else {
-        at
-    }
+    put_where_it_fits(buffer, at, bytes, |buffer| put_refused(buffer, at, refusal))
 }

@@ -12,7 +12,7 @@ use text::{digit_count, put_numbered, put_text};
 pub fn outputs_length(outputs: &[u8]) -> usize
     ensures { result ≡ length (output_digits outputs.now) }
 {
-    if outputs.len() == 0 { 1 } else { outputs.len() }
+    outputs.len().max(1)
 }
 
 // The digit of each byte.
@@ -21,12 +21,10 @@ fn put_digits(buffer: &mut [u8], at: usize, bytes: &[u8]) -> usize
     ensures buffer_after { buffer.new ≡ sets buffer.old at (map digit bytes.now) }
     ensures value { result ≡ at + length bytes.now }
 {
-    let mut i: usize = 0;
-    while i < bytes.len() {
-        buffer[at + i] = 48 + bytes[i] % 10;
-        i += 1;
+    for (i, byte) in bytes.iter().enumerate() {
+        buffer[at + i] = b'0' + byte % 10;
     }
-    at + i
+    at + bytes.len()
 }
 
 // A digit for each output byte, or - where there is no output.
@@ -35,7 +33,7 @@ pub fn put_outputs(buffer: &mut [u8], at: usize, outputs: &[u8]) -> usize
     ensures buffer_after { buffer.new ≡ sets buffer.old at (output_digits outputs.now) }
     ensures value { result ≡ at + length (output_digits outputs.now) }
 {
-    if outputs.len() == 0 {
+    if outputs.is_empty() {
         put_text(buffer, at, b"-")
     } else {
         put_digits(buffer, at, outputs)

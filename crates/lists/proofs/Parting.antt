@@ -1,7 +1,7 @@
 -- Three lists in one buffer, one after the other.
 use Prim.Native.Nat.{ℕ, ◌+◌, ◌-◌, ◌≤◌}
 use native.Mathlib.Omega.{arith}
-use mathlib.Core.Path.{◌≡◌, sym, ap, ◌∙◌}
+use mathlib.Core.Path.{◌≡◌, ◌∙◌}
 use mathlib.Core.List.{List, [], ◌∷◌, ◌++◌, append_assoc}
 use mathlib.Core.Bool.{Bool, true, false, cond}
 use lib.Dec.{eqb, lit≤}
@@ -16,24 +16,13 @@ use Rattle.image.proofs.Nets.{length_nets}
 use Rattle.checking.proofs.Checked.{Checked}
 use Rattle.cycle.proofs.Deciding.{same_or_not}
 
--- written one after the other, each leaves those before it
-module _ (a b c : ℕ) (xs ys zs : List ℕ) (h : length xs ≡ a) (k : length ys ≡ b - a) (l : length zs ≡ c - b) (ab : a ≤ b) (bc : b ≤ c) (p q r : List ℕ) where
-  abbrev pub third : List ℕ
-  third = take b (take a (xs ++ p) ++ (ys ++ q)) ++ (zs ++ r)
-
+-- written one after the other, the second leaves the first, and the third leaves the second
+module _ (a b : ℕ) (xs ys : List ℕ) (h : length xs ≡ a) (k : length ys ≡ b - a) (ab : a ≤ b) (p q r : List ℕ) where
   both : length (xs ++ ys) ≡ b
   both = length-append xs ys ∙ omega (arith, h, k)
 
-  third_is : third ≡ xs ++ (ys ++ (zs ++ r))
-  third_is = rw (take_at xs p a h, ← append_assoc xs ys q, take_at (xs ++ ys) q b both, append_assoc)
-
-  pub parts_are : (take a third ≡ xs) × (take (b - a) (drop a third) ≡ ys) × (take (c - b) (drop b third) ≡ zs)
-  parts_are =
-      let e = third_is in (
-        ap (take a) e ∙ take_at xs (ys ++ (zs ++ r)) a h,
-        ap (λ t. take (b - a) (drop a t)) e ∙ ap (take (b - a)) (drop_at xs (ys ++ (zs ++ r)) a h) ∙ take_at ys (zs ++ r) (b - a) k,
-        ap (λ t. take (c - b) (drop b t)) (e ∙ sym (append_assoc xs ys (zs ++ r))) ∙ ap (take (c - b)) (drop_at (xs ++ ys) (zs ++ r) b both) ∙ take_at zs r (c - b) l,
-      )
+  pub middle_is : take (b - a) (drop a (take b (take a (xs ++ p) ++ (ys ++ q)) ++ r)) ≡ ys
+  middle_is = rw (take_at xs p a h, ← append_assoc xs ys q, take_at (xs ++ ys) q b both, append_assoc, drop_at xs (ys ++ r) a h) (take_at ys r (b - a) k)
 
 -- there are no more INPUTs, REGs and OUTs than nets
 few_in : (xs : List Net) → count INPUT xs + count REG xs + count OUT xs ≤ length xs

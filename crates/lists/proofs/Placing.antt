@@ -7,7 +7,9 @@ use mathlib.Core.Logic.{⊎_elim}
 use mathlib.Core.Path.{◌≡◌, refl, sym, ap, ◌∙◌}
 use mathlib.Core.List.{List, [], ◌∷◌, ◌++◌, map, append-nil}
 use mathlib.Core.Bool.{Bool, true, false, ◌&&◌, cond}
-use lib.Dec.{eqb}
+use lib.Dec.{eqb, lit≤}
+use Rattle.std.specs.Int.{from_bool}
+use Rattle.std.proofs.lemmas.List.{get_or-map, ext_get_or}
 use lib.ListN.{length, get_or, take, drop, set, length-set, length-map, drop_of_length-le}
 use lib.Seq.{drop-cons, take-suc, take-suc-set, take-set-le}
 use borrow.Author.Tests.{eqb-true, eqb-false}
@@ -20,7 +22,7 @@ use Rattle.image.proofs.Nets.{net_in, length_nets}
 use Rattle.unknowns.specs.Widths.{rule_by, Coded}
 use Rattle.cycle.specs.Cycle.{Rule, pin_byte, Verdict, clear, flow, outputs_from, verdict_from, clocked}
 use Rattle.cycle.proofs.Selections.{Selection, outputs_selected, registers_selected, selection_length, place_below, selection_place}
-use Rattle.cycle.proofs.Filling.{Pass, pass_takes, pass_skips, Filled, fill_begins, fill_goes_on, fill_length, fill_ends}
+use Rattle.cycle.proofs.Filling.{Pass, pass_takes, pass_skips}
 use Rattle.cycle.proofs.Deciding.{below_or_here}
 use Rattle.inverses.specs.Inverses.{put_both}
 use Rattle.inverses.proofs.Places.{put_size, put_here, put_other, put_keeps}
@@ -140,23 +142,10 @@ put_goes_on {w} {list} {bytes} {before} {after} {j} places e coded h p =
     }
 
 -- BYTES TAKEN from the listed nets, each by a function of its net, in order
-pub record Gathering (f : ℕ → ℕ) (list buffer : List ℕ) (j : ℕ) : Type 0 where
-  pub filled : Filled (map f list) buffer j (map f (drop j list))
-
-pub gather_begins : (f : ℕ → ℕ) (list buffer : List ℕ) → length buffer ≡ length list → Gathering f list buffer 0
-gather_begins f list buffer h = record { filled = fill_begins refl (length-map list f ∙ sym h) }
-
-pub gather_goes_on : {f : ℕ → ℕ} {list buffer : List ℕ} {j : ℕ} → j < length list → Gathering f list buffer j
-    → Gathering f list (set buffer j (f (get_or list j 0))) (j + 1)
-gather_goes_on {f} {list} {j = j} h w =
-    let e : drop j list ≡ get_or list j 0 ∷ drop (j + 1) list = drop-cons list j 0 h ∙ ap (λ m. get_or list j 0 ∷ drop m list) (sym (add-one j)) in
-    record { filled = fill_goes_on (rw e at w.filled) }
-
-pub gather_room : {f : ℕ → ℕ} {list buffer : List ℕ} {j : ℕ} → Gathering f list buffer j → length buffer ≡ length list
-gather_room {f} {list} w = fill_length w.filled ∙ length-map list f
-
-pub gather_ends : {f : ℕ → ℕ} {list buffer : List ℕ} {j : ℕ} → length list ≤ j → Gathering f list buffer j → buffer ≡ map f list
-gather_ends {list = list} h w = fill_ends (rw (drop_of_length-le list h) at w.filled)
+pub gathered_by : (f : ℕ → ℕ) (list buffer : List ℕ) → length buffer ≡ length list → ((k : ℕ) → k < length list → get_or buffer k 0 ≡ f (get_or list k 0))
+    → buffer ≡ map f list
+gathered_by f list buffer h taken =
+    ext_get_or 0 buffer (map f list) (h ∙ sym (length-map list f)) (λ k l. taken k (omega arith) ∙ sym (get_or-map f list k 0 0 (omega arith)))
 
 -- which is a selection
 module _ (f : ℕ → ℕ) where
@@ -246,6 +235,11 @@ marked_next list nets j h =
 pub marked_done : (list nets : List ℕ) (j : ℕ) → length list ≤ j → first_marked (drop j list) nets ≡ clear
 unfolding first_marked
 marked_done list nets j h = ap (λ l. first_marked l nets) (drop_of_length-le list h)
+
+-- a flag as a number, which counts what is listed
+pub one_if : (b : Bool) → (from_bool b ≡ cond {A = ℕ} b 1 0) × (from_bool b ≤ 1)
+one_if true = (refl, lit≤ tt)
+one_if false = (refl, lit≤ tt)
 
 -- A LIST BEING MADE: a number may be written at the next place before it is known whether it belongs there
 module _ {k : ℕ} {s : List ℕ} {n : ℕ} {lent buffer : List ℕ} {j i : ℕ} (p : Pass (places_selected k) s n lent buffer j i) where

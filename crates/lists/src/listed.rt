@@ -22,11 +22,9 @@ pub fn put_bytes(width: usize, list: &[u16], bytes: &[u8], nets: &mut [u8])
     requires bytes_len { (length bytes.now ≡ length list.now) × Places 8192 list.now × (length nets.old ≡ 40960) }
     ensures { Put width list.now bytes.now nets.old nets.new (length list.now) }
 {
-    let mut j: usize = 0;
-    while j < list.len() {
+    for (j, &i) in list.iter().enumerate() {
         let x = bytes[j];
-        put_both(nets, list[j] as usize, x, inverse(width, x));
-        j += 1;
+        put_both(nets, usize::from(i), x, inverse(width, x));
     }
 }
 
@@ -35,10 +33,8 @@ pub fn take_bytes(list: &[u16], nets: &[u8], bytes: &mut [u8])
     requires { (length bytes.old ≡ length list.now) × Within (length nets.now) list.now }
     ensures { bytes.new ≡ gathered list.now nets.now }
 {
-    let mut j: usize = 0;
-    while j < list.len() {
-        bytes[j] = nets[list[j] as usize];
-        j += 1;
+    for (j, &i) in list.iter().enumerate() {
+        bytes[j] = nets[usize::from(i)];
     }
 }
 
@@ -48,11 +44,9 @@ pub fn clock_listed(image: &[u8], list: &[u16], nets: &[u8], state: &mut [u8])
     requires list_value { (list.now ≡ places_from REG 0 (nets_of image.now)) × (length state.old ≡ length list.now) }
     ensures { state.new ≡ at_pins image.now list.now nets.now }
 {
-    let mut j: usize = 0;
-    while j < list.len() {
-        let a = operand_of(image, list[j] as usize, 0);
+    for (j, &i) in list.iter().enumerate() {
+        let a = operand_of(image, usize::from(i), 0);
         state[j] = nets[a];
-        j += 1;
     }
 }
 
@@ -61,17 +55,13 @@ fn verdict_listed(list: &[u16], nets: &[u8]) -> Verdict
     requires { Within (length nets.now) list.now }
     ensures { verdict_in result ≡ first_marked list.now nets.now }
 {
-    let mut j: usize = 0;
-    loop {
-        if list.len() <= j {
-            break Verdict::Clear;
-        }
-        let i = list[j] as usize;
+    for &net in list {
+        let i = usize::from(net);
         if marked(nets[i]) {
-            break Verdict::Flow(i);
+            return Verdict::Flow(i);
         }
-        j += 1;
     }
+    Verdict::Clear
 }
 
 // The first flow of cycles 0 to c, by the listed protected OUTs. `earlier` is that of the cycles before c.
@@ -81,16 +71,14 @@ pub fn first_listed(earlier: FirstFlow, c: usize, list: &[u16], nets: &[u8]) -> 
         ≡ first_of earlier.cycle (verdict_in earlier.verdict)
         (first_of c (first_marked list.now nets.now) (first_flow_in earlier)) }
 {
-    let v = earlier.verdict;
-    if let Verdict::Flow(_) = v {
-        return earlier;
-    }
-    let w = verdict_listed(list, nets);
-    if let Verdict::Clear = w {
-        return earlier;
-    }
-    FirstFlow {
-        cycle: c,
-        verdict: w,
+    match earlier.verdict {
+        Verdict::Flow(_) => earlier,
+        Verdict::Clear => match verdict_listed(list, nets) {
+            Verdict::Clear => earlier,
+            Verdict::Flow(i) => FirstFlow {
+                cycle: c,
+                verdict: Verdict::Flow(i),
+            },
+        },
     }
 }

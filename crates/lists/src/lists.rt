@@ -7,28 +7,22 @@ ghost use Rattle.image.specs.Places.{places_from};
 ghost use Rattle.checking.specs.Check.{check_refusal};
 ghost use Rattle.lists.specs.Lists.{protected_of, Found, Watched};
 
-use gates::{INPUT, NOT, OUT, REG};
+use gates::Kind;
 use image::{kind_of, operand_of, sizes_of};
 
-// 1 where the flag is set, and 0 where not.
-fn one_if(flag: bool) -> usize
-    ensures { (result ≡ cond flag 1 0) × (result ≤ 1) }
-{
-    flag as usize
-}
-
 // The numbers of all nets of a kind, in net order. The list is as long as there are such nets. A number is written before it is known
-// whether the net is of the kind, and counted if it is: so there is no branch on the kind.
+// whether the net is of the kind, and counted if it is: so there is no branch on the kind. A `for` over the nets is no plainer: the loop ends when the
+// list is full, often long before the last net, and a `for` would test that beside its own end. The kind is a byte, since the contract is of every byte.
 pub fn list_nets(image: &[u8], kind: u8, list: &mut [u16])
     requires image_value { check_refusal image.now ≡ none }
     requires list_len { length list.old ≡ count kind (nets_of image.now) }
     ensures { list.new ≡ places_from kind 0 (nets_of image.now) }
 {
-    let mut found: usize = 0;
+    let mut found = 0;
     let mut i: usize = 0;
     while found < list.len() {
         list[found] = i as u16;
-        found += one_if(kind_of(image, i) == kind);
+        found += usize::from(kind_of(image, i) == kind);
         i += 1;
     }
 }
@@ -38,13 +32,13 @@ fn list_kinds(image: &[u8], regs: usize, outs: usize, end: usize, list: &mut [u1
     requires image_value { check_refusal image.now ≡ none }
     requires regs_value { (regs ≡ (sizes_of image.now).inputs) × (outs ≡ regs + (sizes_of image.now).registers) × (end ≡ outs + (sizes_of image.now).outputs) }
     requires end_in_bounds { end ≤ length list.old }
-    ensures list_after { take regs list.new ≡ places_from INPUT 0 (nets_of image.now) }
-    ensures list_after_2 { take (outs - regs) (drop regs list.new) ≡ places_from REG 0 (nets_of image.now) }
-    ensures list_after_3 { take (end - outs) (drop outs list.new) ≡ places_from OUT 0 (nets_of image.now) }
+    ensures inputs { take regs list.new ≡ places_from INPUT 0 (nets_of image.now) }
+    ensures registers { take (outs - regs) (drop regs list.new) ≡ places_from REG 0 (nets_of image.now) }
+    ensures outputs { take (end - outs) (drop outs list.new) ≡ places_from OUT 0 (nets_of image.now) }
 {
-    list_nets(image, INPUT, &mut list[..regs]);
-    list_nets(image, REG, &mut list[regs..outs]);
-    list_nets(image, OUT, &mut list[outs..end]);
+    list_nets(image, Kind::Input as u8, &mut list[..regs]);
+    list_nets(image, Kind::Reg as u8, &mut list[regs..outs]);
+    list_nets(image, Kind::Out as u8, &mut list[outs..end]);
 }
 
 // Those of the listed OUTs that are protected, in order. The answer is how many they are.
@@ -53,13 +47,10 @@ fn list_protected(image: &[u8], outs: &[u16], list: &mut [u16]) -> usize
     requires outs_in_bounds { length outs.now ≤ length list.old }
     ensures { (result ≤ length list.new) × (take result list.new ≡ protected_of image.now outs.now) }
 {
-    let mut found: usize = 0;
-    let mut j: usize = 0;
-    while j < outs.len() {
-        let i = outs[j];
+    let mut found = 0;
+    for &i in outs {
         list[found] = i;
-        found += one_if(operand_of(image, i as usize, 1) == 1);
-        j += 1;
+        found += usize::from(operand_of(image, usize::from(i), 1) == 1);
     }
     found
 }
@@ -69,19 +60,17 @@ fn lowest_gate(image: &[u8], n: usize) -> usize
     requires { 8 + n ≤ length image.now }
     ensures { (result ≤ n) × ((i : ℕ) → i < result → kind_at image.now i < NOT) }
 {
-    let mut i: usize = 0;
-    while i < n {
-        if NOT <= kind_of(image, i) {
+    for i in 0..n {
+        if Kind::Not as u8 <= kind_of(image, i) {
             return i;
         }
-        i += 1;
     }
-    i
+    n
 }
 
 // What a run finds out once: the first net that may be a gate or OUT, where the lists of the REGs and of the OUTs begin and end, after that
 // of the INPUTs, and how many OUTs are protected.
-#[derive(Clone, Copy)]
+#[derive(Clone, Copy, PartialEq, Eq, Debug)]
 pub struct Parts {
     pub from: usize,
     pub regs: usize,

@@ -15,7 +15,7 @@ limit_places =
     ∷ 0 ∷ 0 ∷ 4 ∷ 0 ∷ 6 ∷ 6 ∷ 6 ∷ 6 ∷ 2
     ∷ 0 ∷ 0 ∷ 0 ∷ 0 ∷ 0 ∷ 0 ∷ 0 ∷ 6 ∷ 0 ∷ []
 
--- the limit that place p of limitPlaces names, among the limits ls, and the number in the bits of x that are held to it
+-- the limit that place p of `limit_places` names, among the limits ls, and the number in the bits of x that are held to it
 abbrev pub limit_at : (ls : List ℕ) (p : ℕ) → ℕ
 limit_at ls p = get_or ls (get_or limit_places p 0 + 1) 0
 

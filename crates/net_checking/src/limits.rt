@@ -13,6 +13,7 @@ const LIMIT_PLACES: [u8; 27] = *b"\
     ";
 
 // The table by value. It is taken once a call, since a constant is copied to the stack wherever it is named.
+#[tactic(auto, unfolding(crate::specs::Limits::limit_places))]
 pub fn limit_places() -> [u8; 27]
     ensures { result ≡ limit_places }
 {
@@ -24,16 +25,17 @@ fn held(places: &[u8; 27], limits: &[usize; 10], p: usize, x: usize) -> bool
     requires { (places.now ≡ limit_places) × (p < 27) }
     ensures { result ≡ ltb (held_at limits.now p x) (limit_at limits.now p) }
 {
-    let k = places[p] as usize;
+    let k = usize::from(places[p]);
     x & limits[k] < limits[k + 1]
 }
 
 // Whether each operand of a net lies below its limit.
+#[tactic(auto, unfolding(crate::specs::Limits::within_limits))]
 pub fn within(places: &[u8; 27], limits: &[usize; 10], x: Net) -> bool
     requires { (places.now ≡ limit_places) × (x.kind < 9) }
     ensures { result ≡ within_limits limits.now x }
 {
-    let kind = x.kind as usize;
+    let kind = usize::from(x.kind);
     held(places, limits, kind, x.a)
         & held(places, limits, 9 + kind, x.b)
         & held(places, limits, 18 + kind, x.c)

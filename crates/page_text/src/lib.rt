@@ -1,6 +1,7 @@
 // The pages of a run's outputs, put into a lent buffer.
 #![tactic(auto)]
 
+mod columns;
 mod lines;
 mod pages;
 mod pieces;

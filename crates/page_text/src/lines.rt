@@ -1,12 +1,15 @@
 // The two kinds of lines. A line is put at a place of a lent buffer that has room for it, and the answer is the place behind it.
-ghost use Rattle.std.specs.Prelude.{◌≡◌, ◌+◌, ◌*◌, ◌≤◌, ◌<◌, length};
+ghost use Rattle.std.specs.Prelude.{◌≡◌, ◌+◌, ◌≤◌, length};
 ghost use Rattle.std.proofs.lemmas.List.Edits.{sets};
-ghost use Rattle.page_text.specs.Pages.{heading, output_bytes, output_line};
+ghost use Rattle.page_text.specs.Pages.{heading, output_line};
+ghost use Rattle.page_text.specs.Columns.{column_bytes};
 
+use crate::columns::Column;
 use crate::pieces::{put_blanks, put_signs};
 use text::{digit_count, put_number, put_text};
 
 // The heading line: the word cycle, and the number of the page's first cycle set left.
+#[tactic(auto, using(crate::proofs::LineParts::line_lengths))]
 pub fn put_heading(page: &mut [u8], at: usize, first: u64) -> usize
     requires { at + length (heading first) ≤ length page.old }
     ensures page_after { page.new ≡ sets page.old at (heading first) }
@@ -18,25 +21,18 @@ pub fn put_heading(page: &mut [u8], at: usize, first: u64) -> usize
     put_text(page, r, b"\n")
 }
 
-// The line of output j: its net number set right, and one sign for each of n cycles.
-pub fn put_output(
-    page: &mut [u8],
-    at: usize,
-    net: u16,
-    o: usize,
-    j: usize,
-    n: usize,
-    bytes: &[u8],
-) -> usize
-    requires j_lt_o { (j < o) × (o ≤ 8192) × (n ≤ 64) × (n * o ≤ length bytes.now) }
-    requires bytes_in_bounds { at + length (output_line net (output_bytes o j n bytes.now)) ≤ length page.old }
-    ensures page_after { page.new ≡ sets page.old at (output_line net (output_bytes o j n bytes.now)) }
-    ensures value { result ≡ at + length (output_line net (output_bytes o j n bytes.now)) }
+// The line of an output: its net number set right, and one sign for each cycle.
+#[tactic(auto, using(crate::proofs::LineParts::line_lengths))]
+pub fn put_output(page: &mut [u8], at: usize, net: u16, column: Column) -> usize
+    requires { at + length (output_line net (column_bytes column)) ≤ length page.old }
+    ensures page_after { page.new ≡ sets page.old at (output_line net (column_bytes column.entry)) }
+    ensures value { result ≡ at + length (output_line net (column_bytes column.entry)) }
 {
-    let p = put_blanks(page, at, 5 - digit_count(net as u64));
-    let q = put_number(page, p, net as u64);
+    let n = u64::from(net);
+    let p = put_blanks(page, at, 5 - digit_count(n));
+    let q = put_number(page, p, n);
     let r = put_text(page, q, b" ");
-    let s = put_signs(page, r, o, j, n, bytes);
-    let t = put_blanks(page, s, 64 - n);
+    let s = put_signs(page, r, column);
+    let t = put_blanks(page, s, 64 - column.cycles);
     put_text(page, t, b"\n")
 }

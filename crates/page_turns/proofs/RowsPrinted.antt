@@ -10,7 +10,8 @@ use lib.ListN.{length, take, drop, length-append}
 use lib.Seq.{sets, length-take-le, take-append-le}
 use Rattle.gates.specs.Kinds.{OUT}
 use Rattle.image.specs.Image.{sizes_of, nets_of}
-use Rattle.refusals.specs.declared.answer.Outcome.{Outcome}
+use Rattle.std.proofs.Common.{Result}
+use Rattle.refusals.specs.declared.answer.Refusal.{Refusal}
 use Rattle.refusals.specs.Refusals.{refuse, ◌then◌, refusal_in}
 use Rattle.checking.proofs.Checked.{check_none, few_of}
 use Rattle.cycle.specs.Cycle.{plain, outputs_of}
@@ -91,11 +92,11 @@ module _ {s : List ℕ} {i : ℕ} {outs st outputs text : List ℕ} (a : Asks s 
           take-append-le (r.good * length outs) filled (drop (whole * length outs) outputs) good_within ∙ t.outputs ∙ ap outputs_of cycles_are in
           rw (bytes_are, good_is, a.listed)
 
-      refusal_is : (o : Outcome) → refusal_in o ≡ (refusal_in r.outcome then refuse (not (eqb (length bytes - whole * i) 0)) 12 0) → refusal_in o ≡ rows_refusal i bytes
+      refusal_is : (o : Result (Unit {0}) Refusal) → refusal_in o ≡ (refusal_in r.outcome then refuse (not (eqb (length bytes - whole * i) 0)) 12 0) → refusal_in o ≡ rows_refusal i bytes
       unfolding rows_refusal
       refusal_is o e = e ∙ rw (t.refusal, (good_take i whole bytes).1, mod-eq-sub-div-mul (length bytes) i)
 
-      pub rows_printed : (first : ℕ) {page used : ℕ} {text₁ text₂ : List ℕ} (o : Outcome)
+      pub rows_printed : (first : ℕ) {page used : ℕ} {text₁ text₂ : List ℕ} (o : Result (Unit {0}) Refusal)
           → text₁ ≡ sets text 0 (pages_text (page_count r.good) first r.good outs shown)
           → page ≡ length (pages_text (page_count r.good) first r.good outs shown)
           → refusal_in o ≡ (refusal_in r.outcome then refuse (not (eqb (length bytes - whole * i) 0)) 12 0)

@@ -8,7 +8,7 @@ ghost use Rattle.page_turns.specs.Turns.{Asks, Taken};
 
 use listing_text::refused_line;
 use page_text::put_page;
-use refusals::{Outcome, refused};
+use refusals::{Condition, Refusal};
 use row_runs::run_rows;
 
 // The page of n cycles, at the start of the text. No cycle gives no page.
@@ -25,38 +25,36 @@ fn put_cycles(text: &mut [u8], first: u64, n: usize, outs: &[u16], bytes: &[u8])
 }
 
 // The refusal that a row draws, or else 12 where bytes of a short row are left.
-fn or_short(o: Outcome, rest: usize) -> Outcome
+fn or_short(o: Result<(), Refusal>, rest: usize) -> Result<(), Refusal>
     ensures { refusal_in result ≡ (refusal_in o then refuse (not (eqb rest 0)) 12 0) }
 {
-    if let Outcome::Refused(r) = o {
-        return Outcome::Refused(r);
-    }
+    o?;
     if rest != 0 {
-        return refused(12, 0);
+        return Err(Condition::RowsLength.at(0));
     }
-    Outcome::Done
+    Ok(())
 }
 
 // A refusal as the last line, where there is one.
-fn put_last(text: &mut [u8], at: usize, o: Outcome) -> usize
+fn put_last(text: &mut [u8], at: usize, o: Result<(), Refusal>) -> usize
     requires { at + 71 ≤ length text.old }
     ensures text_after { text.new ≡ sets text.old at (last_line (refusal_in o)) }
     ensures value { (result ≡ at + length (last_line (refusal_in o))) × (result ≤ length text.new) }
 {
     match o {
-        Outcome::Done => at,
-        Outcome::Refused(r) => refused_line(text, at, r),
+        Ok(()) => at,
+        Err(r) => refused_line(text, at, r),
     }
 }
 
 // How many rows were taken, and how many bytes of the text are printed for them.
-#[derive(Clone, Copy)]
+#[derive(Clone, Copy, Debug, PartialEq, Eq)]
 pub struct Printed {
     pub good: usize,
     pub used: usize,
 }
 
-// Bytes of at most 64 rows, from cycle `first` on.
+// Bytes of at most 64 rows, from cycle `first` on. Its parameters are those of `take_turn`, which may not change.
 pub fn put_rows(
     image: &[u8],
     outs: &[u16],

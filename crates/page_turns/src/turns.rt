@@ -5,14 +5,14 @@ ghost use Rattle.page_turns.specs.Turns.{Asks, Turned};
 use crate::putting::put_rows;
 use failures::say_failure;
 use input::fill;
-use std::io::{Read, Write};
+use std::io::{self, Read, Write};
 
 // The most rows of one turn: those of one page.
 const ON_PAGE: usize = 64;
 
 // How far the program has come: the number of cycles on its pages, how many bytes the last turn read, how many bytes of the text it printed,
-// whether another turn follows, and whether a read or a write failed.
-#[derive(Clone, Copy)]
+// whether another turn follows, and whether a read or a write failed. The two flags stay: the contract of `take_turn` speaks of them.
+#[derive(Clone, Copy, Debug, PartialEq, Eq)]
 pub struct Progress {
     pub cycles: u64,
     pub read: usize,
@@ -21,19 +21,15 @@ pub struct Progress {
     pub failed: bool,
 }
 
-// Writes out the first bytes of the text. The answer is whether that failed.
-pub fn write_text<W: Write>(rt: &impl Eprint, output: &mut W, text: &[u8], used: usize) -> bool
-    requires { used ≤ length text.now }
-{
-    let written = output.write_all(&text[..used]);
-    if let Err(error) = written {
-        say_failure(rt, "standard output", &error);
-        return true;
-    }
-    false
+// Writes out a text. That this failed is said on standard error.
+pub fn write_text<W: Write>(rt: &impl Eprint, output: &mut W, text: &[u8]) -> io::Result<()> {
+    output
+        .write_all(text)
+        .inspect_err(|error| say_failure(rt, "standard output", error))
 }
 
 // One turn. Where a read fails, nothing is printed: an unfinished page would look like the last one.
+// The netlist and the buffers are lent one by one, as the contract of this call names them.
 pub fn take_turn<I: Read, W: Write>(
     rt: &impl Eprint,
     input: &mut I,
@@ -53,11 +49,11 @@ pub fn take_turn<I: Read, W: Write>(
     let got = fill(rt, "standard input", input, rows);
     if got.failed {
         return Progress {
-            cycles: p.cycles,
             read: 0,
             used: 0,
             open: false,
             failed: true,
+            ..p
         };
     }
     let read = got.bytes;
@@ -72,13 +68,12 @@ pub fn take_turn<I: Read, W: Write>(
         first,
         text,
     );
-    let failed = write_text(rt, output, text, did.used);
-    let cycles = first + did.good as u64;
+    let written = write_text(rt, output, &text[..did.used]);
     Progress {
-        cycles,
+        cycles: first + did.good as u64,
         read,
         used: did.used,
         open: did.good == ON_PAGE,
-        failed,
+        failed: written.is_err(),
     }
 }

@@ -3,7 +3,7 @@ use Prim.Native.Nat.{ℕ, ◌+◌, ◌*◌, ◌/◌, ◌≤◌, ◌<◌}
 use native.Mathlib.Nat.{zero-mul, add-mul, one-mul, le-div_iff_mul-le, div-lt_iff_lt-mul}
 use native.Mathlib.Omega.{arith}
 use mathlib.Core.Path.{◌≡◌, refl, sym, ap, ◌∙◌}
-use mathlib.Core.Bool.{Bool, true, false, ◌&&◌, ◌||◌, not}
+use mathlib.Core.Bool.{true, false}
 use mathlib.Core.List.{List, [], ◌++◌}
 use mathlib.Core.Option.{none, some}
 use lib.ListN.{length, take, drop, length-append}
@@ -11,7 +11,7 @@ use lib.Seq.{length-take-le, drop_at}
 use borrow.Author.Tests.{eqb-true, ne_eqb}
 use Rattle.image.specs.Image.{sizes_of, nets_of}
 use Rattle.refusals.specs.declared.answer.Refusal.{Refusal}
-use Rattle.refusals.specs.declared.answer.Outcome.{Outcome}
+use Rattle.std.proofs.Common.{Result}
 use Rattle.checking.specs.Check.{check_refusal}
 use Rattle.checking.proofs.Checked.{check_none}
 use Rattle.cycle.specs.Cycle.{plain, cycles_of, state_after}
@@ -184,24 +184,11 @@ holds_on {s} h going t rows outputs text =
       came = came_on a.accepted (rw e at a.some) (h.came.going going) (rw e at t) (rw e at rows);
     }
 
-pub holds_few : {s : List ℕ} {i : ℕ} {outs st outputs text : List ℕ} {n : ℕ} {p : Progress} → Holds s i outs st outputs text n p → p.open ≡ true → p.cycles ≡ n * 64
-holds_few h going = (h.came.going going).cycles_are
-
 -- power-up leaves a state that a run accepts, and the starts in its registers
-pub powered : (s before : List ℕ) {after : List ℕ} (o : Outcome) → check_refusal s ≡ none → length before ≡ state_length (sizes_of s) → powered_up o after ≡ power_up_of s before
+pub powered : (s before : List ℕ) {after : List ℕ} (o : Result (Unit {0}) Refusal) → check_refusal s ≡ none → length before ≡ state_length (sizes_of s) → powered_up o after ≡ power_up_of s before
     → AcceptedState s after × (registers_in s after ≡ starts (nets_of s))
 powered s before {after} o accepted size e =
     let image = (check_none s).0 accepted in
     let r = starts_registers image in
     let is : after ≡ with_count (starts (nets_of s)) = ap (λ (x : PoweredUp). x.state) (e ∙ powered_up_lem s before image size) in
     rw is ((state_none s _).1 (counted_state r), registers_back r)
-
--- TESTS: turns go on without a failure, and a third test; neither of two
-pub goes_on_lem : (p q r : Bool) → ((p && not q) && r) ≡ true → (p ≡ true) × (q ≡ false) × (r ≡ true)
-goes_on_lem true false r h = (refl, refl, h)
-goes_on_lem true true r h = (cc, cc, cc)
-goes_on_lem false q r h = (cc, cc, cc)
-
-pub neither_of : (p q : Bool) → (p || q) ≡ false → (p ≡ false) × (q ≡ false)
-neither_of false q h = (refl, h)
-neither_of true q h = (cc, cc)

@@ -9,12 +9,12 @@ ghost use Rattle.pages.specs.Printed.{PagesPrinted};
 
 use checking::check;
 use cycle::state_length;
-use gates::OUT;
+use gates::Kind;
 use image::{Sizes, sizes_of};
 use listing_text::refused_line;
 use lists::list_nets;
 use page_turns::{Progress, take_turn, write_text};
-use refusals::{Outcome, Refusal};
+use refusals::Refusal;
 use std::io::{Read, Write};
 use tracker::power_up;
 
@@ -25,8 +25,17 @@ pub const MOST_TEXT: usize = 581774;
 // number of cycles stays below 2^64.
 const MOST_TURNS: u64 = 140737488355328;
 
+// No turn is made, and none follows.
+const NOT_BEGUN: Progress = Progress {
+    cycles: 0,
+    read: 0,
+    used: 0,
+    open: false,
+    failed: false,
+};
+
 // The OUTs are listed, and the state powers up; then turns are made until none follows. Where one would follow the most turns, that counts
-// as a failure.
+// as a failure. The netlist and the buffers are lent one by one, as take_turn takes them.
 fn take_input<I: Read, W: Write>(
     rt: &impl Eprint,
     input: &mut I,
@@ -44,29 +53,23 @@ fn take_input<I: Read, W: Write>(
     requires rows_len { (length rows.old ≡ 64 * inputs) × ((2 + length outs.old) * 71 ≤ length text.old) }
     ensures { result.failed ≡ false → PagesPrinted image.now text.new result.used }
 {
-    list_nets(image, OUT, outs);
-    power_up(image, state);
+    list_nets(image, Kind::Out as u8, outs);
+    let _ = power_up(image, state);
     let mut p = Progress {
-        cycles: 0,
-        read: 0,
-        used: 0,
         open: true,
-        failed: false,
+        ..NOT_BEGUN
     };
-    let mut turns: u64 = 0;
-    while p.open & !p.failed & (turns < MOST_TURNS) {
-        let next = take_turn(
+    for _turn in 0..MOST_TURNS {
+        if !p.open || p.failed {
+            break;
+        }
+        p = take_turn(
             rt, input, output, image, outs, inputs, state, outputs, rows, p, text,
         );
-        p = next;
-        turns += 1;
     }
     Progress {
-        cycles: p.cycles,
-        read: p.read,
-        used: p.used,
-        open: p.open,
         failed: p.failed | p.open,
+        ..p
     }
 }
 
@@ -83,31 +86,22 @@ fn print_accepted<I: Read, W: Write>(
     ensures { result.failed ≡ false → PagesPrinted image.now text.new result.used }
 {
     if z.inputs == 0 {
-        return Progress {
-            cycles: 0,
-            read: 0,
-            used: 0,
-            open: false,
-            failed: false,
-        };
+        return NOT_BEGUN;
     }
     let mut outs = [0u16; 8192];
     let mut state = [0u8; 8194];
     let mut outputs = [0u8; 524288];
     let mut rows = [0u8; 524288];
-    let o = z.outputs;
-    let st = state_length(z);
-    let n = 64 * z.inputs;
     take_input(
         rt,
         input,
         output,
         image,
         z.inputs,
-        &mut outs[..o],
-        &mut state[..st],
+        &mut outs[..z.outputs],
+        &mut state[..state_length(z)],
         &mut outputs,
-        &mut rows[..n],
+        &mut rows[..64 * z.inputs],
         text,
     )
 }
@@ -122,13 +116,11 @@ fn print_refused<W: Write>(
     ensures { take result.used text.new ≡ refused_line refusal }
 {
     let used = refused_line(text, 0, refusal);
-    let failed = write_text(rt, output, text, used);
+    let written = write_text(rt, output, &text[..used]);
     Progress {
-        cycles: 0,
-        read: 0,
         used,
-        open: false,
-        failed,
+        failed: written.is_err(),
+        ..NOT_BEGUN
     }
 }
 
@@ -142,12 +134,8 @@ pub fn print<I: Read, W: Write>(
 ) -> Progress
     ensures { result.failed ≡ false → PagesPrinted image.now text.new result.used }
 {
-    let o = check(image);
-    match o {
-        Outcome::Done => {
-            let z = sizes_of(image);
-            print_accepted(rt, input, output, image, z, text)
-        }
-        Outcome::Refused(r) => print_refused(rt, output, text, r),
+    match check(image) {
+        Ok(()) => print_accepted(rt, input, output, image, sizes_of(image), text),
+        Err(r) => print_refused(rt, output, text, r),
     }
 }

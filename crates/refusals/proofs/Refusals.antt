@@ -2,7 +2,8 @@
 use Prim.Native.Nat.{ℕ, suc, ◌≤◌, ◌<◌}
 use mathlib.Core.Logic.Iff
 use mathlib.Core.Logic.{◌↔◌}
-use mathlib.Core.Path.{◌≡◌, refl}
+use mathlib.Core.Path.{◌≡◌, refl, sym, ap, ◌∙◌}
+use Rattle.std.proofs.Common.{Result, Ok, Err}
 use mathlib.Core.List.{List, [], ◌∷◌, Forall₂}
 use mathlib.Core.Option.{Option, none, some}
 use mathlib.Core.Bool.{Bool, true, false, ◌||◌, not}
@@ -11,7 +12,14 @@ use lib.ListN.{length}
 use borrow.Author.Tests.{ltb-false, leb-false, eqb-true, eqb-false, not-false, le-ltb, lt-leb, eq-eqb, ne_eqb}
 use Rattle.gates.proofs.Laws.{Code}
 use Rattle.refusals.specs.declared.answer.Refusal.{Refusal}
-use Rattle.refusals.specs.Refusals.{refuse, ◌then◌, bad_above, bad_byte, bad_length}
+use Rattle.refusals.specs.Refusals.{refusal_in, refuse, ◌then◌, bad_above, bad_byte, bad_length}
+
+-- what an answer says of the refusal that it gives, by its variant
+pub passed : (o : Result (Unit {0}) Refusal) {done : Unit {0}} {p : Option Refusal} → refusal_in o ≡ p → o ≡ Ok done → p ≡ none
+passed o tried well = sym tried ∙ ap refusal_in well
+
+pub turned : (o : Result (Unit {0}) Refusal) {r : Refusal} {p : Option Refusal} → refusal_in o ≡ p → o ≡ Err r → p ≡ some r
+turned o tried bad = sym tried ∙ ap refusal_in bad
 
 pub then_none : (p q : Option Refusal) → (p then q ≡ none) ↔ ((p ≡ none) × (q ≡ none))
 then_none none q = (λ h. (refl, h), λ h. h.1)

@@ -1,9 +1,9 @@
--- What a refusal is, how conditions are tried in their order, and the tests of a lent slice, of which calls make 10 to 14 and 16. `Refusal` and `Outcome`
+-- What a refusal is, how conditions are tried in their order, and the tests of a lent slice, of which calls make 10 to 14 and 16. `Refusal` and `Condition`
 -- are the struct and the enum of src/answer.rt.
-use Rattle.std.specs.Prelude.{ℕ, suc, List, [], ◌∷◌, Bool, ◌||◌, not, cond, eqb, ltb, length}
+use Rattle.std.specs.Prelude.{Result, Ok, Err, ℕ, suc, List, [], ◌∷◌, Bool, ◌||◌, not, cond, eqb, ltb, length}
 use Rattle.std.proofs.Math.Option.{Option, none, some}
-use Rattle.refusals.specs.declared.answer.Outcome.{Outcome}
-use Rattle.refusals.specs.declared.answer.Outcome.TheVariants.{Done, Refused}
+use Rattle.refusals.specs.declared.answer.Condition.{Condition}
+use Rattle.refusals.specs.declared.answer.Condition.TheVariants as conditions
 use Rattle.refusals.specs.declared.answer.Refusal.{Refusal}
 use Rattle.refusals.specs.declared.lent.Bytes.{Bytes}
 
@@ -12,9 +12,32 @@ abbrev pub refusal : (number place : ℕ) → Refusal
 refusal number place = record { number = number; place = place }
 
 -- the refusal that an answer gives, or none where the call is done
-abbrev pub refusal_in : Outcome → Option Refusal
-refusal_in Done = none
-refusal_in (Refused r) = some r
+abbrev pub refusal_in : Result Unit Refusal → Option Refusal
+refusal_in (Ok done) = none
+refusal_in (Err r) = some r
+
+-- the number of a condition in the table
+abbrev pub number_of : Condition → ℕ
+number_of conditions.ShortImage = 1
+number_of conditions.NetCount = 2
+number_of conditions.ImageLength = 3
+number_of conditions.Kind = 4
+number_of conditions.Pin = 5
+number_of conditions.Value = 6
+number_of conditions.Unlisted = 7
+number_of conditions.Counts = 8
+number_of conditions.Cycles = 9
+number_of conditions.StateLength = 10
+number_of conditions.StateByte = 11
+number_of conditions.RowsLength = 12
+number_of conditions.RowByte = 13
+number_of conditions.BufferLength = 14
+number_of conditions.DoubledNets = 15
+number_of conditions.DoubledLength = 16
+number_of conditions.DoubledImage = 17
+number_of conditions.Code = 18
+number_of conditions.PageLength = 19
+number_of conditions.MarkedCount = 20
 
 -- the refusal, where its condition holds
 abbrev pub refuse : Bool → (number place : ℕ) → Option Refusal

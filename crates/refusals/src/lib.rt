@@ -4,5 +4,5 @@
 mod answer;
 mod lent;
 
-pub use answer::{Outcome, Refusal, refused};
+pub use answer::{Condition, Refusal, refused};
 pub use lent::{Bytes, byte_refusal, codes_refusal};

@@ -11,14 +11,11 @@ use lib.Seq.{length-take-le, take_all, take_at}
 use borrow.Author.Tests.{le-ltb}
 use Rattle.image.specs.Image.{sizes_of, nets_of}
 use Rattle.refusals.specs.declared.answer.Refusal.{Refusal}
-use Rattle.refusals.specs.declared.answer.Outcome.{Outcome}
-use Rattle.refusals.specs.declared.answer.Outcome.TheVariants as outcomes
+use Rattle.std.proofs.Common.{Result, Ok, Err}
 use Rattle.refusals.specs.Refusals.{refusal, refusal_in, bad_byte}
 use Rattle.refusals.proofs.Refusals.{Codes, byte_none, length_none}
 use Rattle.checking.proofs.Checked.{Checked, check_none}
 use Rattle.cycle.specs.declared.answer.FirstFlow as code
-use Rattle.cycle.specs.declared.answer.RunAnswer.{RunAnswer}
-use Rattle.cycle.specs.declared.answer.RunAnswer.TheVariants.{Done, Refused}
 use Rattle.cycle.specs.Answers.{ran}
 use Rattle.cycle.specs.Cycle.{plain, FirstFlow, outputs_of, state_after}
 use Rattle.cycle.specs.State.{with_count, registers_in}
@@ -68,13 +65,13 @@ module _ {s : List ℕ} {i o k : ℕ} {st rows outputs : List ℕ} (g : Lent s i
 
 -- as the code has it
 module _ {s : List ℕ} {i o k : ℕ} {st rows outputs : List ℕ} (g : Lent s i o k st rows outputs)
-    {a : RunAnswer} {after filled : List ℕ} (e : ran a after filled ≡ run_of s st k rows outputs) where
-  done_good : {f : code.FirstFlow} → a ≡ Done f → Codes rows
+    {a : Result code.FirstFlow Refusal} {after filled : List ℕ} (e : ran a after filled ≡ run_of s st k rows outputs) where
+  done_good : {f : code.FirstFlow} → a ≡ Ok f → Codes rows
   done_good d =
       either_way (bad_byte (ltb 3) 13 0 rows) (byte_none 13 0 rows).0
       (λ r h. let z : ◌≡◌ {A = ℕ} 0 1 = cc (ap (λ (x : Ran). x.answer) (rw d at (e ∙ run_bad g h))) in absurd (omega arith))
 
-  refused_bad : {r : Refusal} → a ≡ Refused r → bad_byte (ltb 3) 13 0 rows ≡ some r
+  refused_bad : {r : Refusal} → a ≡ Err r → bad_byte (ltb 3) 13 0 rows ≡ some r
   unfolding as_run counting
   refused_bad {r} d =
       either_way (bad_byte (ltb 3) 13 0 rows)
@@ -82,7 +79,7 @@ module _ {s : List ℕ} {i o k : ℕ} {st rows outputs : List ℕ} (g : Lent s i
       (λ q h. let same : ◌≡◌ {A = Answer FirstFlow} (refused r) (refused q) = ap (λ (x : Ran). x.answer) (rw d at (e ∙ run_bad g h)) in h ∙ cc same)
 
   -- all rows are good
-  pub all_run : {f : code.FirstFlow} → a ≡ Done f → RowsTaken s i o k st rows (record { good = k; outcome = outcomes.Done }) after filled
+  pub all_run : {f : code.FirstFlow} → a ≡ Ok f → RowsTaken s i o k st rows (record { good = k; outcome = Ok record {} }) after filled
   unfolding as_run counting
   all_run d =
       let c = done_good d in
@@ -100,7 +97,7 @@ module _ {s : List ℕ} {i o k : ℕ} {st rows outputs : List ℕ} (g : Lent s i
       }
 
   -- a byte is bad
-  module _ {r : Refusal} (d : a ≡ Refused r) where
+  module _ {r : Refusal} (d : a ≡ Err r) where
     abbrev good : ℕ
     good = r.place / i
 
@@ -154,8 +151,8 @@ module _ {s : List ℕ} {i o k : ℕ} {st rows outputs : List ℕ} (g : Lent s i
     cycles_are : cycles_on s i good (take (good * i) rows) (registers_in s after) ≡ cycles_on s i good rows (registers_in s st)
     cycles_are = rw same_state (cycles_take plain (nets_of s) i good rows (registers_in s st))
 
-    pub good_run : (b : RunAnswer) {after' filled' : List ℕ} → ran b after' filled' ≡ run_of s after good (take (good * i) rows) (take (good * o) filled)
-        → (out : Outcome) → refusal_in out ≡ some (refusal r.number (r.place - good * i))
+    pub good_run : (b : Result code.FirstFlow Refusal) {after' filled' : List ℕ} → ran b after' filled' ≡ run_of s after good (take (good * i) rows) (take (good * o) filled)
+        → (out : Result (Unit {0}) Refusal) → refusal_in out ≡ some (refusal r.number (r.place - good * i))
         → RowsTaken s i o k st rows (record { good = good; outcome = out }) after' (filled' ++ drop (good * o) filled)
     unfolding as_run counting
     good_run b {after'} {filled'} f out draws =

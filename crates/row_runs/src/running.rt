@@ -1,18 +1,18 @@
 // Whole rows are taken by one run. Where a byte is bad, the run turns back, and the rows before the row of that byte are run.
 ghost use Rattle.row_runs.specs.Taking.{Lent, RowsTaken};
 
-use cycle::RunAnswer;
-use refusals::{Outcome, refused};
+use refusals::{Refusal, refused};
 use tracker::run;
 
-// How many rows were run, and the refusal that the row after them draws.
-#[derive(Clone, Copy)]
+// How many rows were run, and the refusal that the row after them draws. Both hold of one call, so this is no `Result`.
+#[derive(Clone, Copy, PartialEq, Eq, Debug)]
 pub struct RowsRun {
     pub good: usize,
-    pub outcome: Outcome,
+    pub outcome: Result<(), Refusal>,
 }
 
 // At most 4,096 rows of `inputs` bytes each, with `each` output bytes a cycle. The place of a bad byte counts within its row.
+// What is lent stands apart, as in `run`, by whose contract this one speaks.
 pub fn run_rows(
     image: &[u8],
     inputs: usize,
@@ -25,17 +25,16 @@ pub fn run_rows(
     requires { Lent image.now inputs each k state.old rows.now outputs.old }
     ensures { RowsTaken image.now inputs each k state.old rows.now result state.new outputs.new }
 {
-    let a = run(image, k, state, rows, outputs);
-    match a {
-        RunAnswer::Done(_) => RowsRun {
+    match run(image, k, state, rows, outputs) {
+        Ok(_) => RowsRun {
             good: k,
-            outcome: Outcome::Done,
+            outcome: Ok(()),
         },
-        RunAnswer::Refused(r) => {
+        Err(r) => {
             let good = r.place / inputs;
             let end = good * inputs;
             let filled = good * each;
-            run(image, good, state, &rows[..end], &mut outputs[..filled]);
+            let _ = run(image, good, state, &rows[..end], &mut outputs[..filled]);
             let outcome = refused(r.number, r.place - end);
             RowsRun { good, outcome }
         }

@@ -16,7 +16,9 @@ use Rattle.image.specs.Image.{sizes_of, net, kind_at, operand_at, net_at}
 use Rattle.image.specs.Pins.{pin_net}
 use Rattle.image.proofs.PinNets.{zero_net, net_most, pin_most}
 use Rattle.net_checking.proofs.Passes.{Passes, is_const, is_input, is_reg, is_not, is_and, is_or, is_xor, is_mux, is_out}
-use Rattle.checking.proofs.Checked.{Checked, net_passes}
+use Rattle.std.proofs.Math.Option.{none}
+use Rattle.checking.specs.Check.{check_refusal}
+use Rattle.checking.proofs.Checked.{Checked, check_none, net_passes}
 use Rattle.cycle.specs.Cycle.{Walk, pin_byte, net_byte}
 use Rattle.cycle.proofs.Deciding.{below_or_here}
 use Rattle.cycle.proofs.Ruling.{PolicyUnread, same_byte}
@@ -73,6 +75,26 @@ pin_there p few h = omega (arith, pin_most p)
 pub pin_coded : {w : ℕ} {bs : List ℕ} {n : ℕ} → Both w bs n → (p : ℕ) → pin_net p < n → code_by w (get_or bs p 0) ≡ true
 pin_coded {w} {bs} both p h = rw (pin_place both p h) (pin_code w bs p (both.codes (pin_net p) h))
 
+-- what a pin p reads: it is a place that is there, and has a code
+pub record Reads (w : ℕ) (nets : List ℕ) (p : ℕ) : Type 0 where
+  pub place : p < 40960
+  pub code : code_by w (get_or nets p 0) ≡ true
+  pub pin : get_or nets p 0 ≡ pin_byte (rule_by w) nets p
+
+-- and the pins of a gate or OUT, with its kind
+pub record Gate (w : ℕ) (s nets : List ℕ) (i : ℕ) : Type 0 where
+  pub kind : kind_at s i < 9
+  pub a : Reads w nets (operand_at s (sizes_of s).nets i 0)
+  pub b : Reads w nets (operand_at s (sizes_of s).nets i 1)
+  pub c : Reads w nets (operand_at s (sizes_of s).nets i 2)
+
+pub gate_there : {w : ℕ} {s nets : List ℕ} {i k : ℕ} → check_refusal s ≡ none → i < (sizes_of s).nets → Both w nets (sizes_of s).nets → k ≡ kind_at s i → NOT ≤ k → Gate w s nets i
+gate_there {w} {s} {nets} {i} accepted h both kind gate =
+    let known : Checked s = (check_none s).0 accepted in
+    let pins = pins_there known i h (rw kind at gate) in
+    let reads : (p : ℕ) → pin_net p < (sizes_of s).nets → Reads w nets p = λ p l. record { place = pin_there p known.few_nets l; code = pin_coded both p l; pin = pin_place both p l } in
+    record { kind = pins.kind; a = reads _ pins.a; b = reads _ pins.b; c = reads _ pins.c }
+
 rule_coded : (w : ℕ) (s bs : List ℕ) (i : ℕ) → Both w bs (sizes_of s).nets
     → Pins (sizes_of s).nets (net (kind_at s i) (operand_at s (sizes_of s).nets i 0) (operand_at s (sizes_of s).nets i 1) (operand_at s (sizes_of s).nets i 2))
     → code_by w (rule_at w s bs i) ≡ true
@@ -90,7 +112,7 @@ module _ (w : ℕ) (s nets : List ℕ) (i : ℕ) {k a b c x y : ℕ} (kind : k �
 
 -- SETTLING may start at any net below which there is no gate and no OUT
 pub settle_begins : {w : ℕ} {s nets : List ℕ} {from : ℕ} → Both w nets (sizes_of s).nets → ((i : ℕ) → i < from → kind_at s i < NOT) → Settled w s nets nets from
-settle_begins b none = record { size = refl; sources = λ j m h. refl; gates = λ j h g. let m = none j h in absurd (omega arith); both = b }
+settle_begins b below = record { size = refl; sources = λ j m h. refl; gates = λ j h g. let m = below j h in absurd (omega arith); both = b }
 
 module _ {width : ℕ} {s : List ℕ} (c : Checked s) {before nets : List ℕ} {i : ℕ} (h : i < (sizes_of s).nets) (size : length nets ≡ 40960)
     (w : Settled width s before nets i) where
@@ -140,13 +162,6 @@ module _ {width : ℕ} {s : List ℕ} (c : Checked s) {before nets : List ℕ} {
 pub settled_at_lem : {w : ℕ} {s before after : List ℕ} {i j : ℕ} → i ≡ j → Settled w s before after i → Settled w s before after j
 settled_at_lem e h = rw e at h
 
--- in two passes
-pub settled_so_far : {width : ℕ} {s before after : List ℕ} {i : ℕ} → Settled width s before after i → Settled width s after after i
-settled_so_far w = record { size = refl; sources = λ j m h. refl; gates = w.gates; both = w.both }
-
-pub settled_then : {width : ℕ} {s before middle after : List ℕ} {i j : ℕ} → Settled width s before middle i → Settled width s middle after j → Settled width s before after j
-settled_then v w = record { size = w.size ∙ v.size; sources = λ j m h. w.sources j m h ∙ v.sources j m h; gates = w.gates; both = w.both }
-
 -- PREPARING: each net below i has its constant, or 0
 abbrev pub first_byte : (s : List ℕ) (i : ℕ) → ℕ
 first_byte s i = cond (eqb (kind_at s i) CONST) (operand_at s (sizes_of s).nets i 0 % 2) 0
@@ -175,9 +190,6 @@ first_small false a = omega arith
 
 chosen_small : (s : List ℕ) (i : ℕ) → first_byte s i ≤ 1
 chosen_small s i = first_small (eqb (kind_at s i) CONST) (operand_at s (sizes_of s).nets i 0)
-
-pub prepare_begins : {w : ℕ} {s nets : List ℕ} → Prepared w s nets 0
-prepare_begins = record { constants = λ j h. absurd (omega arith); both = record { codes = λ j h. absurd (omega arith); inverses = λ j h. absurd (omega arith) } }
 
 -- a NOT of a CONST's byte, or of 0, is the other one by every width
 pub prepare_goes_on : {w : ℕ} {s nets : List ℕ} {i : ℕ} → Checked s → i < (sizes_of s).nets → length nets ≡ 40960

@@ -9,7 +9,7 @@ ghost use Rattle.inverses.specs.Inverses.{Both};
 ghost use Rattle.unknowns.specs.Widths.{Tabled, Tables};
 ghost use Rattle.settling.specs.Settling.{settled_at, Settled, Prepared};
 
-use gates::{CONST, NOT};
+use gates::Kind;
 use image::{kind_of, operand_of, sizes_of};
 use inverses::put_both;
 use unknowns::{code_by, inverse};
@@ -18,7 +18,7 @@ use unknowns::{code_by, inverse};
 fn first_byte(kind: u8, a: usize) -> u8
     ensures { (result ≡ cond (eqb kind CONST) (a % 2) 0) × (result < 2) }
 {
-    let constant = (kind == CONST) as u8;
+    let constant = u8::from(kind == Kind::Const as u8);
     constant * (a % 2) as u8
 }
 
@@ -27,79 +27,49 @@ pub fn set_constants(image: &[u8], n: usize, nets: &mut [u8])
     requires { (check_refusal image.now ≡ none) × (n ≡ (sizes_of image.now).nets) × (length nets.old ≡ 40960) }
     ensures { (width : ℕ) → Prepared width image.now nets.new n }
 {
-    let mut i: usize = 0;
-    while i < n {
+    for i in 0..n {
         let x = first_byte(kind_of(image, i), operand_of(image, i, 0));
         put_both(nets, i, x, 1 - x);
-        i += 1;
     }
 }
 
-// Net i takes its code where it is a gate or OUT, and keeps the one that it has where not. The width is a number in each call, so that the compiler works with it.
-fn settle(image: &[u8], t: &[u8], width: usize, i: usize, nets: &mut [u8])
-    requires tabled { Tabled width t.now }
-    requires image_value { (check_refusal image.now ≡ none) × (i < (sizes_of image.now).nets) × (length nets.old ≡ 40960) × Both width nets.old (sizes_of image.now).nets }
-    ensures { nets.new ≡ settled_at width image.now i nets.old }
+// Net i takes its code where it is a gate or OUT, and keeps the one that it has where not. The width is a constant, so that the compiler works with it.
+fn settle<const W: usize>(image: &[u8], t: &[u8], i: usize, nets: &mut [u8])
+    requires tabled { Tabled W t.now }
+    requires image_value { check_refusal image.now ≡ none }
+    requires i_value { i < (sizes_of image.now).nets }
+    requires nets_value { (length nets.old ≡ 40960) × Both W nets.old (sizes_of image.now).nets }
+    ensures { nets.new ≡ settled_at W image.now i nets.old }
 {
     let kind = kind_of(image, i);
-    if NOT <= kind {
+    if Kind::Not as u8 <= kind {
         let a = operand_of(image, i, 0);
         let b = operand_of(image, i, 1);
         let c = operand_of(image, i, 2);
-        let x = code_by(t, width, kind, nets[a], nets[b], nets[c]);
-        put_both(nets, i, x, inverse(width, x));
+        let x = code_by(t, W, kind, nets[a], nets[b], nets[c]);
+        put_both(nets, i, x, inverse(W, x));
     }
 }
 
-// The nets from `from` on by the table of plain bytes, four to a turn, as long as there are four; the answer is the first that is left. There is no gate and
-// no OUT below `from`.
-fn settle_fours(image: &[u8], n: usize, t: &[u8], from: usize, nets: &mut [u8]) -> usize
-    requires tabled { Tabled 4 t.now }
-    requires image_value { (check_refusal image.now ≡ none) × (n ≡ (sizes_of image.now).nets) × (length nets.old ≡ 40960) × Both 4 nets.old n }
-    requires from_le_n { (from ≤ n) × ((i : ℕ) → i < from → kind_at image.now i < NOT) }
-    ensures { (result ≤ n) × Settled 4 image.now nets.old nets.new result }
-{
-    let mut i = from;
-    while i + 3 < n {
-        settle(image, t, 4, i, nets);
-        settle(image, t, 4, i + 1, nets);
-        settle(image, t, 4, i + 2, nets);
-        settle(image, t, 4, i + 3, nets);
-        i += 4;
-    }
-    i
-}
-
-// All nets from `from` on, by the table of plain bytes. There is no gate and no OUT below it. N is read here, ahead of the first store to the nets, so that the
+// All nets from `from` on, by the table of width W. There is no gate and no OUT below it. N is read here, ahead of the first store to the nets, so that the
 // compiler has it at hand for every operand that is read through the view.
-fn settle_plain(image: &[u8], t: &[u8], from: usize, nets: &mut [u8])
-    requires tabled { Tabled 4 t.now }
-    requires image_value { (check_refusal image.now ≡ none) × (length nets.old ≡ 40960) × Both 4 nets.old (sizes_of image.now).nets }
+fn settle_from<const W: usize>(image: &[u8], t: &[u8], from: usize, nets: &mut [u8])
+    requires tabled { Tabled W t.now }
+    requires image_value { (check_refusal image.now ≡ none) × (length nets.old ≡ 40960) × Both W nets.old (sizes_of image.now).nets }
     requires from_bound { (from ≤ (sizes_of image.now).nets) × ((i : ℕ) → i < from → kind_at image.now i < NOT) }
-    ensures { Settled 4 image.now nets.old nets.new (sizes_of image.now).nets }
+    ensures { Settled W image.now nets.old nets.new (sizes_of image.now).nets }
 {
-    let z = sizes_of(image);
-    let n = z.nets;
-    let mut i = settle_fours(image, n, t, from, nets);
-    while i < n {
-        settle(image, t, 4, i, nets);
-        i += 1;
+    let n = sizes_of(image).nets;
+    // Four nets to a turn, which the compiler writes out: with one to a turn a run takes an eighth more instructions.
+    let fours = (n - from) / 4;
+    for four in 0..fours {
+        let i = from + 4 * four;
+        for j in i..i + 4 {
+            settle::<W>(image, t, j, nets);
+        }
     }
-}
-
-// The same by the table of codes with unknowns, net by net.
-fn settle_unknown(image: &[u8], t: &[u8], from: usize, nets: &mut [u8])
-    requires tabled { Tabled 8 t.now }
-    requires image_value { (check_refusal image.now ≡ none) × (length nets.old ≡ 40960) × Both 8 nets.old (sizes_of image.now).nets }
-    requires from_bound { (from ≤ (sizes_of image.now).nets) × ((i : ℕ) → i < from → kind_at image.now i < NOT) }
-    ensures { Settled 8 image.now nets.old nets.new (sizes_of image.now).nets }
-{
-    let z = sizes_of(image);
-    let n = z.nets;
-    let mut i = from;
-    while i < n {
-        settle(image, t, 8, i, nets);
-        i += 1;
+    for j in from + 4 * fours..n {
+        settle::<W>(image, t, j, nets);
     }
 }
 
@@ -118,7 +88,8 @@ pub fn settle_nets(
     ensures { Settled width image.now nets.old nets.new (sizes_of image.now).nets }
 {
     if width == 4 {
-        return settle_plain(image, plain, from, nets);
+        settle_from::<4>(image, plain, from, nets);
+    } else {
+        settle_from::<8>(image, wide, from, nets);
     }
-    settle_unknown(image, wide, from, nets);
 }

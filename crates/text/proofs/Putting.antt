@@ -37,15 +37,6 @@ module _ {f : ℕ → ℕ} {xs begin : List ℕ} {at : ℕ} where
   pub put_ends : {buffer : List ℕ} {i : ℕ} → length xs ≤ i → Putting f xs begin at buffer i → (buffer ≡ sets begin at (map f xs)) × (at + i ≡ at + length xs)
   put_ends {i = i} h p = let e : i ≡ length xs = omega (arith, p.upto) in (rw (e, drop-length) at p.left, rw e)
 
--- the bytes of xs themselves
-map_same : (xs : List ℕ) → map (λ x. x) xs ≡ xs
-map_same [] = refl
-map_same (x ∷ xs) = ap (λ l. x ∷ l) (map_same xs)
-
-pub same_ends : {xs begin : List ℕ} {at : ℕ} {buffer : List ℕ} {i : ℕ} → length xs ≤ i → Putting (λ x. x) xs begin at buffer i
-    → (buffer ≡ sets begin at xs) × (at + i ≡ at + length xs)
-same_ends {xs} h p = let all = put_ends h p in (rw (map_same xs) at all.0, all.1)
-
 -- TEXT BY TEXT. A text xs was put into the buffer d at place p: it holds d' then, and the next place is p'
 pub record Puts (d : List ℕ) (p : ℕ) (xs d' : List ℕ) (p' : ℕ) : Type 0 where
   pub buffer : d' ≡ sets d p xs

@@ -1,4 +1,5 @@
 // Texts in ASCII, and numbers in decimal, each put into a lent buffer.
+// The buffer and the place in it are two parameters, since the contracts of `put_text`, `put_number` and `put_numbered` name both.
 #![tactic(auto)]
 
 mod digits;

@@ -15,10 +15,7 @@ pub fn put_text(buffer: &mut [u8], at: usize, text: &[u8]) -> usize
     ensures buffer_after { buffer.new ≡ sets buffer.old at text.now }
     ensures value { result ≡ at + length text.now }
 {
-    let mut i: usize = 0;
-    while i < text.len() {
-        buffer[at + i] = text[i];
-        i += 1;
-    }
-    at + i
+    let end = at + text.len();
+    buffer[at..end].copy_from_slice(text);
+    end
 }

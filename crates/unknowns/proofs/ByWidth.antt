@@ -1,14 +1,12 @@
 -- Tables with places for the codes of the pins: what their codes are, for both widths, and the table of width 8 as it is written.
-use Prim.Native.Nat.{ℕ, zero, suc, ◌+◌, ◌-◌, ◌*◌, ◌≤◌, ◌<◌, ◌/◌, ◌%◌}
-use native.Mathlib.Nat.{eq-or-lt_of_le}
+use Prim.Native.Nat.{ℕ, zero, suc, ◌-◌, ◌≤◌, ◌<◌}
 use native.Mathlib.Omega.{arith}
 use mathlib.Core.Logic.{◌⊎◌, ⊎_elim, inl, inr}
-use mathlib.Core.Path.{◌≡◌, refl, sym, ◌∙◌}
+use mathlib.Core.Path.{◌≡◌, refl, sym}
 use mathlib.Core.List.{List, flat_map}
 use mathlib.Core.Bool.{Bool, true, false, cond}
 use lib.Dec.{eqb, ltb, lit≤}
-use lib.ListN.{length, set, length-set}
-use lib.Seq.{get_or-set_same, get_or-set_other}
+use lib.ListN.{length}
 use borrow.Author.Tests.{lt-ltb, ltb-true, ne_eqb}
 use Rattle.gates.specs.Kinds.{NOT, OUT}
 use Rattle.gates.specs.Rules.{value, mark, byte, not_byte, gate_byte}
@@ -32,6 +30,24 @@ code_8 x h = code_small (is_code_lem x h)
 -- each is below the width
 pub code_below : {w : ℕ} {t : List ℕ} → Tabled w t → (x : ℕ) → code_by w x ≡ true → x < w
 code_below t x h = ⊎_elim (λ e. rw e (code_4 x (rw e at h))) (λ e. rw e (code_8 x (rw e at h))) t.width_is
+
+-- a code's place is there
+pub place_there : {w : ℕ} {t : List ℕ} → Tabled w t → {kind a b c : ℕ} → kind < 9 → a < w → b < w → c < w → width_index w kind a b c < length t
+place_there {w} {t} g {kind} {a} {b} {c} k la lb lc =
+    ⊎_elim
+    (λ e.
+    let size : length t ≡ 576 = rw e at g.size in
+    let ha : a < 4 = rw e at la in
+    let hb : b < 4 = rw e at lb in
+    let hc : c < 4 = rw e at lc in
+    rw e (omega (arith, size, ha, hb, hc, k)))
+    (λ e.
+    let size : length t ≡ 4608 = rw e at g.size in
+    let ha : a < 8 = rw e at la in
+    let hb : b < 8 = rw e at lb in
+    let hc : c < 8 = rw e at lc in
+    rw e (omega (arith, size, ha, hb, hc, k)))
+    g.width_is
 
 -- a width that is not 4 is 8
 pub other_width : {w : ℕ} → (w ≡ 4) ⊎ (w ≡ 8) → (w ≡ 4 → ⊥) → w ≡ 8
@@ -69,10 +85,6 @@ not_known w (suc zero) h = either_width (eqb w 4) 0
 not_known w (suc (suc x)) h = absurd (omega arith)
 
 -- what a NOT gives: of a byte the other value with its mark, by either width; of an unknown bit the bit
-pub not_plain : (x : ℕ) → not_byte x ≡ rule_by 4 NOT x 0 0
-unfolding rule_by gate_byte
-not_plain x = refl
-
 pub not_low : (w x : ℕ) → x < 4 → not_byte x ≡ rule_by w NOT x 0 0
 unfolding rule_by gate_byte
 not_low w x h = by_width (eqb w 4)
@@ -80,6 +92,10 @@ not_low w x h = by_width (eqb w 4)
     by_width : (b : Bool) → not_byte x ≡ cond b (not_byte x) (static_byte NOT x 0 0)
     by_width true = refl
     by_width false = sym (static_known NOT x 0 0 (omega arith) (lit≤ tt) (lit≤ tt))
+
+-- a code of width 4 is a byte
+pub low_code : {w x : ℕ} → code_by w x ≡ true → ((w ≡ 4 → ⊥) × x ≤ 3) ⊎ (w ≡ 4) → x < 4
+low_code {w} {x} h is = ⊎_elim (λ low. omega (arith, low.1)) (λ e. code_4 x (rw e at h)) is
 
 code_wide : (w x : ℕ) → (w ≡ 4 → ⊥) → code_by w x ≡ true → is_code x ≡ true
 unfolding code_by
@@ -113,50 +129,10 @@ plain_tabled g =
       codes = λ kind a b c k ha hb hc. g.codes kind a b c k (code_4 a ha) (code_4 b hb) (code_4 c hc);
     }
 
--- WIDTH 8, place after place
-pub wide_begins : {t : List ℕ} → length t ≡ 4608 → Wide 0 t
-wide_begins l = record { size = l; codes = λ kind a b c k ha hb hc h. absurd (omega arith) }
-
-here_or_below : (i j : ℕ) → j < i + 1 → (j ≡ i) ⊎ (j < i)
-here_or_below i j h = eq-or-lt_of_le (omega arith)
-
-pub wide_next : {i x : ℕ} {t : List ℕ} → i < 4608 → Wide i t
-    → ((kind a b c : ℕ) → is_code a ≡ true → is_code b ≡ true → is_code c ≡ true → kind ≡ i / 512 → a ≡ i / 64 % 8 → b ≡ i / 8 % 8 → c ≡ i % 8 → x ≡ static_byte kind a b c)
-    → Wide (i + 1) (set t i x)
-wide_next {i} {x} {t} l w right =
-    record {
-      size = length-set t i x ∙ w.size;
-      codes = λ kind a b c k ha hb hc h.
-          let j = width_index 8 kind a b c in
-          let sa = code_small (is_code_lem a ha) in
-          let sb = code_small (is_code_lem b hb) in
-          let sc = code_small (is_code_lem c hc) in
-          ⊎_elim
-          (λ e. rw e (get_or-set_same t i x 0 (omega (arith, w.size)))
-          ∙ right kind a b c ha hb hc (omega arith) (omega arith) (omega arith) (omega arith))
-          (λ m. get_or-set_other t i j x 0 (λ e. omega arith) ∙ w.codes kind a b c k ha hb hc m)
-          (here_or_below i j h);
-    }
-
-pub wide_at : {n m : ℕ} {t : List ℕ} → n ≡ m → Wide n t → Wide m t
-wide_at e w = rw e at w
-
--- place c of row r
-pub row_right : (r c x : ℕ) → c < 8
-    → (is_code (r / 8 % 8) ≡ true → is_code (r % 8) ≡ true → is_code c ≡ true → x ≡ static_byte (r / 64) (r / 8 % 8) (r % 8) c)
-    → let i = r * 8 + c in
-    (kind a b d : ℕ) → is_code a ≡ true → is_code b ≡ true → is_code d ≡ true → kind ≡ i / 512 → a ≡ i / 64 % 8 → b ≡ i / 8 % 8 → d ≡ i % 8
-    → x ≡ static_byte kind a b d
-row_right r c x l h kind a b d ha hb hd k-is a-is b-is d-is =
-    let ek : kind ≡ r / 64 = omega arith in
-    let ea : a ≡ r / 8 % 8 = omega arith in
-    let eb : b ≡ r % 8 = omega arith in
-    let ed : d ≡ c = omega arith in
-    rw (ek, ea, eb, ed) (h (rw ea at ha) (rw eb at hb) (rw ed at hd))
-
-pub wide_tabled : {t : List ℕ} → Wide 4608 t → Tabled 8 t
+-- WIDTH 8: the table with all its places written
+pub wide_tabled : (n : ℕ) (t : List ℕ) → Wide n t → 4608 ≤ n → Tabled 8 t
 unfolding rule_by code_by
-wide_tabled w =
+wide_tabled n t w all =
     record {
       width_is = inr refl;
       size = w.size;

@@ -41,7 +41,8 @@ const PAIR_CODES: [u8; 324] = *b"\
     \x03\x03\x03\x03\x03\x03\x04\x04\x04\x04\x04\x04\x06\x06\x06\x06\x06\x06\
     ";
 
-// The table of MUX by value. To name the constant where a code is read would copy it for each code.
+// The table of MUX by value. To name the constant where a code is read would copy it for each code. It is no twin of the next one that a generic function
+// could stand for: the two tables have other lengths and other rules.
 pub fn mux_codes() -> [u8; 216]
     ensures { MuxTable result }
 {

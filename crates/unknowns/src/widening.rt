@@ -2,17 +2,16 @@
 ghost use Rattle.std.specs.Prelude.{◌≡◌, true, ◌+◌, ◌*◌, ◌<◌, length};
 ghost use Rattle.unknowns.specs.Filling.{is_code, static_byte};
 ghost use Rattle.unknowns.specs.Tables.{place, MuxTable, PairTable};
-ghost use Rattle.unknowns.specs.Widths.{Wide, Tabled};
+ghost use Rattle.unknowns.specs.Widths.{Tabled};
 
 use crate::tables::{mux_codes, pair_codes};
-use gates::MUX;
+use gates::Kind;
 
 // Where a code stands among the six. 5 and 7 are no codes, and get a place that is there.
 fn place_of(x: usize) -> usize
-    requires { x < 8 }
     ensures { (result < 6) × (is_code x ≡ true → result ≡ place x) }
 {
-    x - x / 6 - x / 7
+    x.min(5)
 }
 
 // The code of a gate or OUT from the codes of its pins, where they are codes.
@@ -31,38 +30,24 @@ pub fn static_byte(
     let x = place_of(a);
     let y = place_of(b);
     let z = place_of(c);
-    if kind == MUX as usize {
+    if kind == Kind::Mux as usize {
         return mux[(x * 6 + y) * 6 + z];
     }
     pairs[(kind * 6 + x) * 6 + y]
 }
 
-// Eight places of the table, from r × 8 on: those of one kind and of one code each of the pins a and b.
-fn put_row(mux: &[u8; 216], pairs: &[u8; 324], r: usize, t: &mut [u8])
-    requires { MuxTable mux.now × PairTable pairs.now × (r < 576) × Wide (r * 8) t.old }
-    ensures { Wide (r * 8 + 8) t.new }
-{
-    let kind = r / 64;
-    let a = r / 8 % 8;
-    let b = r % 8;
-    let mut c: usize = 0;
-    while c < 8 {
-        t[r * 8 + c] = static_byte(mux, pairs, kind, a, b, c);
-        c += 1;
-    }
-}
-
 // The table.
+#[tactic(auto, using(crate::proofs::ByWidth::wide_tabled))]
 fn wide_table() -> [u8; 4608]
     ensures { Tabled 8 result }
 {
     let mux = mux_codes();
     let pairs = pair_codes();
-    let mut t = [0u8; 4608];
-    let mut r: usize = 0;
-    while r < 576 {
-        put_row(&mux, &pairs, r, &mut t);
-        r += 1;
+    let mut t = [0; 4608];
+    for r in 0..576 {
+        for c in 0..8 {
+            t[r * 8 + c] = static_byte(&mux, &pairs, r / 64, r / 8 % 8, r % 8, c);
+        }
     }
     t
 }
@@ -71,8 +56,5 @@ fn wide_table() -> [u8; 4608]
 pub fn wide_table_for(width: usize) -> [u8; 4608]
     ensures { (length result ≡ 4608) × (width ≡ 8 → Tabled 8 result) }
 {
-    if width == 8 {
-        return wide_table();
-    }
-    [0u8; 4608]
+    if width == 8 { wide_table() } else { [0; 4608] }
 }

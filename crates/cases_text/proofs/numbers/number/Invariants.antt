@@ -1,6 +1,6 @@
--- Each turn of the loop leaves less to do.
-use Rattle.std.proofs.Common.{◌-◌, length}
+-- Behind a digit that was found, the next place is behind the first one, and within the text.
+use Rattle.std.proofs.Common.{◌≡◌, true, ◌<◌, ◌≤◌, length}
 use Rattle.cases_text.proofs.numbers.number.Given as goal
 
-abbrev pub decreases-loop-next : goal.decreases-loop-next
-decreases-loop-next l = length l.t - l.next
+abbrev pub invariant-loop-i : goal.invariant-loop-i
+invariant-loop-i l = l.found ≡ true → (l.p < l.n.next) × (l.n.next ≤ length l.t)

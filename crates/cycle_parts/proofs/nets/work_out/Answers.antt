@@ -1,5 +1,5 @@
 -- `cycle_parts::nets::work_out` meets its contract: its loop is a cycle's walk.
-use Rattle.std.proofs.Common.{add-one, arith}
+use Rattle.std.proofs.Common.{refl, add-one, arith}
 use Rattle.std.proofs.Math.ListN.{length-set, get_or-eq_default}
 use Rattle.std.proofs.Math.Seq.{get_or-set_same}
 use Rattle.checking.proofs.Checked.{check_none}
@@ -17,20 +17,26 @@ loop-i-init c =
       registers = record { size = size.1; codes = codes_low c.requires.low.1 };
       size = size.0;
       codes = codes_low c.requires.low.0;
-    }) c.requires.gate_table.2 in
-    elim c.if-n-gt1.branch [
-      | then-n-gt1 w ↦ begins (rw (w.nets-is, length-set nets 1 0) size.2) (rw (w.nets-is, get_or-set_same nets 1 0 0 (omega (arith, size.2, w.if-n-gt1.true))))
-      | else-n-gt1 w ↦ begins (rw w.nets-is size.2) (rw (w.nets-is, get_or-eq_default nets 0 {n = 1} (omega (arith, size.2, w.if-n-gt1.false))))
-    ]
+    }) c.requires.gate_table.2 in (
+      refl,
+      refl,
+      elim c.if-n-gt1.branch [
+        | then-n-gt1 w ↦ begins (rw (w.nets-is, length-set nets 1 0) size.2) (rw (w.nets-is, get_or-set_same nets 1 0 0 (omega (arith, size.2, w.if-n-gt1.true))))
+        | else-n-gt1 w ↦ begins (rw w.nets-is size.2) (rw (w.nets-is, get_or-eq_default nets 0 {n = 1} (omega (arith, size.2, w.if-n-gt1.false))))
+      ],
+    )
 
-pub net_byte-x-requires-clause-readable : goal.net_byte-x-requires-clause-readable
-net_byte-x-requires-clause-readable c = rw (← c.requires.gate_table.2) (walk_readable c.loop-i.invariant c.loop-i-test.true)
+pub net_byte-byte-requires-clause-readable : goal.net_byte-byte-requires-clause-readable
+net_byte-byte-requires-clause-readable c = rw (← c.requires.gate_table.2) (walk_readable c.loop-i.invariant.2 c.loop-i-test.true)
 
 pub loop-i-preserved : goal.loop-i-preserved
 loop-i-preserved c =
-    let x = c.net_byte-x.ensures in
-    rw (add-one c.loop-i.i)
-    (walk_goes_on c.loop-i.invariant c.loop-i-test.true _ _ _ (rw (← c.requires.gate_table.2) at x.byte_value) x.inputs_value x.registers_value)
+    let x = c.net_byte-byte.ensures in (
+      rw x.taken_after c.loop-i.invariant.0,
+      rw x.taken_after c.loop-i.invariant.1,
+      rw (x.taken_after, add-one c.loop-i.i)
+          (walk_goes_on c.loop-i.invariant.2 c.loop-i-test.true _ _ _ (rw (← c.requires.gate_table.2) at x.byte_value) refl refl),
+    )
 
 pub returns : goal.returns
-returns c = walk_ends c.loop-i.invariant c.loop-i-test.false
+returns c = rw (c.loop-i.invariant.0, c.loop-i.invariant.1) at (walk_ends c.loop-i.invariant.2 c.loop-i-test.false)

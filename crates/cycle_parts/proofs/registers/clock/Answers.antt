@@ -1,56 +1,29 @@
--- `cycle_parts::registers::clock` meets its contract: its loop is a pass that fills the state and counts.
-use Rattle.std.proofs.Common.{refl, sym, ◌∙◌}
-use Rattle.image.specs.Image.{net_at}
+-- `cycle_parts::registers::clock` meets its contract: the byte of a register's net is what its pin reads.
+use Rattle.std.proofs.Common.{rules, ℕ, ◌≡◌, ◌+◌, ◌*◌, ◌<◌, length, get_or}
+use Rattle.gates.specs.Kinds.{REG}
+use Rattle.image.specs.Image.{sizes_of, kind_at, operand_at, net_at}
+use Rattle.image.specs.Pins.{pin_net}
 use Rattle.checking.proofs.Checked.{check_none, pin_below}
 use Rattle.cycle.specs.Cycle.{clocked}
-use Rattle.cycle.proofs.Filling.{pass_room, pass_ends}
-use Rattle.cycle_parts.proofs.Counting.{counting_begins, counting_fits, counting_takes, counting_skips, counting_ends}
 use Rattle.cycle_parts.proofs.registers.clock.Goals as goal
-use Rattle.cycle_parts.proofs.registers.clock.Goals.{then-kind_of-eq-REG, else-kind_of-eq-REG}
 
-pub loop-i-init : goal.loop-i-init
-loop-i-init c = counting_begins ((check_none _).0 c.requires.image_value) c.requires.n_value.0 c.requires.n_value.2
-
-pub pin_byte-taken-requires : goal.pin_byte-taken-requires
-pin_byte-taken-requires c =
+pub set_registers-requires : goal.set_registers-requires
+unfolding net_at
+set_registers-requires c κs within =
+    let s = c.args.image.now in
+    let nets = c.args.nets.now in
     let size = c.requires.n_value in
-    let pin = c.operand_of-a.ensures in (
-      pin.1,
-      rw (pin.0, ← size.0, size.1)
-          (pin_below ((check_none _).0 c.requires.image_value) size.0 _ c.loop-i-test.true (sym c.kind_of.ensures ∙ c.if-kind_of-eq-REG.true)),
-      size.3.low _,
-    )
-
--- a register has a byte in the state
-pub bounds-state-j : goal.bounds-state-j
-bounds-state-j c = pass_room c.loop-i.invariant.pass c.loop-i-test.true (sym c.kind_of.ensures ∙ c.if-kind_of-eq-REG.true)
-
-pub overflow_add-marked : goal.overflow_add-marked
-unfolding net_at
-overflow_add-marked c =
-    let p = c.loop-i.invariant in
-    let byte = rw (c.operand_of-a.ensures.0, ← p.pass.count_is) at c.pin_byte-taken.ensures in
-    record {
-      fits = rw c.mark_bit-marked.ensures.0 (counting_fits p c.loop-i-test.true (sym c.kind_of.ensures ∙ c.if-kind_of-eq-REG.true) byte);
-    }
-
-pub loop-i-preserved : goal.loop-i-preserved
-unfolding net_at
-loop-i-preserved c =
-    let p = c.loop-i.invariant in
-    let below = c.loop-i-test.true in
-    elim c.if-kind_of-eq-REG.branch [
-      | then-kind_of-eq-REG w ↦
-          rw (w.state-is, w.marked-is, w.j-is, w.mark_bit-marked.ensures.0, w.pin_byte-taken.ensures, w.operand_of-a.ensures.0, ← p.pass.count_is)
-          (counting_takes p below (sym c.kind_of.ensures ∙ w.if-kind_of-eq-REG.true) refl)
-      | else-kind_of-eq-REG w ↦
-          rw (w.state-is, w.marked-is, w.j-is) (counting_skips p below (λ e. w.if-kind_of-eq-REG.false (c.kind_of.ensures ∙ e)))
-    ]
+    let image = (check_none s).0 c.requires.image_value in
+    let exact : length s ≡ 8 + 7 * (sizes_of s).nets = image.exact in
+    let net : (i : ℕ) → i < c.args.n → kind_at s i ≡ REG → pin_net (operand_at s (sizes_of s).nets i 0) < length nets =
+    λ i h k. rw (← size.0, size.1) (pin_below image size.0 i h k) in
+    let codes : (j : ℕ) → get_or nets j 0 < 4 = size.3.low in
+    search (rules, net, codes)
 
 pub returns-clause-state_after : goal.returns-clause-state_after
 unfolding clocked
-returns-clause-state_after c = pass_ends c.loop-i.invariant.pass c.loop-i-test.false
+returns-clause-state_after c = c.set_registers.ensures.state_after
 
 pub returns-clause-value : goal.returns-clause-value
 unfolding clocked
-returns-clause-value c = counting_ends c.loop-i.invariant c.loop-i-test.false
+returns-clause-value c = c.set_registers.ensures.value

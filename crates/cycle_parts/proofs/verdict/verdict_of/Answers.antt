@@ -23,25 +23,23 @@ unfolding verdict_from
 nothing_left i bs = refl
 
 pub loop-i-init : goal.loop-i-init
-loop-i-init c =
-    let bs = c.args.nets.now in
-    (omega arith, ap (λ xs. verdict_from mark 0 xs bs) (sym (nets_left_lem c.args.image.now _ c.requires.n_value.0)))
+loop-i-init c = ap (λ xs. verdict_from mark 0 xs c.args.nets.now) (sym (nets_left_lem c.args.image.now _ c.requires.n_value.0))
 
 pub flows-requires : goal.flows-requires
 flows-requires c =
     let size = c.requires.n_value in
-    (rw (← size.0) c.if-n-i.false, ((check_none _).0 c.requires.image_value).exact, rw size.1 c.if-n-i.false)
+    (rw (← size.0) c.loop-i-test.true, ((check_none _).0 c.requires.image_value).exact, rw size.1 c.loop-i-test.true)
 
 pub loop-i-preserved : goal.loop-i-preserved
 loop-i-preserved c =
-    let here = this_net c.args.image.now c.args.n c.loop-i.i c.args.nets.now c.requires.n_value.0 c.if-n-i.false in
-    (omega arith, c.loop-i.invariant.1 ∙ (rw (← c.flows.ensures, c.if-flows.false) at here))
-
-pub returns-then-n-i : goal.returns-then-n-i
-returns-then-n-i c =
-    sym (c.loop-i.invariant.1 ∙ rw (nets_done c.args.image.now c.args.n c.loop-i.i (omega arith), nothing_left))
+    let here = this_net c.args.image.now c.args.n c.loop-i.i c.args.nets.now c.requires.n_value.0 c.loop-i-test.true in
+    c.loop-i.invariant ∙ (rw (← c.flows.ensures, c.if-flows.false) at here)
 
 pub returns-then-flows : goal.returns-then-flows
 returns-then-flows c =
-    let here = this_net c.args.image.now c.args.n c.loop-i.i c.args.nets.now c.requires.n_value.0 c.if-n-i.false in
-    sym (c.loop-i.invariant.1 ∙ (rw (← c.flows.ensures, c.if-flows.true) at here))
+    let here = this_net c.args.image.now c.args.n c.loop-i.i c.args.nets.now c.requires.n_value.0 c.loop-i-test.true in
+    sym (c.loop-i.invariant ∙ (rw (← c.flows.ensures, c.if-flows.true) at here))
+
+pub returns : goal.returns
+returns c =
+    sym (c.loop-i.invariant ∙ rw (nets_done c.args.image.now c.args.n c.loop-i.i (omega (arith, c.loop-i-test.false)), nothing_left))

@@ -1,5 +1,5 @@
 -- At net i, the verdict is that of the nets that are left.
-use Rattle.std.proofs.Common.{◌≡◌, ◌-◌, ◌≤◌}
+use Rattle.std.proofs.Common.{◌≡◌}
 use Rattle.gates.specs.Rules.{mark}
 use Rattle.image.specs.Image.{nets_of}
 use Rattle.image.proofs.Nets.{nets_left}
@@ -7,8 +7,4 @@ use Rattle.cycle.specs.Cycle.{verdict_from}
 use Rattle.cycle_parts.proofs.verdict.verdict_of.Given as goal
 
 abbrev pub invariant-loop-i : goal.invariant-loop-i
-invariant-loop-i l =
-    (l.i ≤ l.n) × (verdict_from mark 0 (nets_of l.image) l.nets ≡ verdict_from mark l.i (nets_left l.image l.n l.i) l.nets)
-
-abbrev pub decreases-loop-i : goal.decreases-loop-i
-decreases-loop-i l = l.n - l.i
+invariant-loop-i l = verdict_from mark 0 (nets_of l.image) l.nets ≡ verdict_from mark l.i (nets_left l.image l.n l.i) l.nets

@@ -4,7 +4,7 @@ use Rattle.listing_cycles.proofs.Lines.{outs_few, one_cycle}
 use Rattle.listing_cycles.proofs.cycles.print_outputs.Goals as goal
 
 pub print_cycle-requires : goal.print_cycle-requires
-print_cycle-requires g c = let pre = c.requires in (pre.room.0, omega (arith, pre.outs.1, outs_few pre.outs.0), pre.room.1)
+print_cycle-requires g c = let pre = c.requires in (pre.room.0, omega (arith, pre.outs, outs_few c.args.netlist.known.outs), pre.room.1)
 
 pub returns-clause-grown : goal.returns-clause-grown
 returns-clause-grown g c =

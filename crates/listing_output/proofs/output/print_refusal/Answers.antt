@@ -1,13 +1,11 @@
--- The line has room at the next place, and is written out.
-use Rattle.listing_output.proofs.Printing.{put_within, last_put, refused_most}
+-- The line is short, and it is what the closure puts.
+use Rattle.std.proofs.Common.{rules}
+use Rattle.listing_text.specs.Lines.{refused_line}
+use Rattle.listing_output.proofs.Printing.{refused_most}
 use Rattle.listing_output.proofs.output.print_refusal.Goals as goal
 
-pub write_last-requires : goal.write_last-requires
-write_last-requires g c =
-    let q = c.make_room-q.ensures.used_value in
-    put_within _ _ _ c.requires q.0 (refused_most c.args.refusal) c.refused_line-used.ensures q.1
+pub print_last-requires-clause-puts : goal.print_last-requires-clause-puts
+print_last-requires-clause-puts g c = (refused_line c.args.refusal, (refused_most c.args.refusal, λ before after at used call. search rules))
 
 pub returns-clause-result_after : goal.returns-clause-result_after
-returns-clause-result_after g c =
-    let q = c.make_room-q.ensures.used_value in
-    last_put _ _ _ c.requires q.0 (refused_most c.args.refusal) c.refused_line-used.ensures q.2 c.write_last.ensures.result_value.0
+returns-clause-result_after g c = c.print_last.ensures.result_after (refused_line c.args.refusal) (refused_most c.args.refusal, λ before after at used call. search rules)

@@ -3,7 +3,7 @@ use Rattle.std.proofs.Common.{arith}
 use mathlib.Core.Path.{refl}
 use Rattle.checking.proofs.Checked.{check_none}
 use Rattle.cycle.proofs.Filling.{pass_begins, pass_below, pass_full}
-use Rattle.lists.proofs.Placing.{list_goes_on}
+use Rattle.lists.proofs.Placing.{one_if, list_goes_on}
 use Rattle.lists.proofs.lists.list_nets.Goals as goal
 
 pub loop-found-init : goal.loop-found-init
@@ -21,7 +21,7 @@ loop-found-smaller c = omega (arith, pass_below c.loop-found.invariant (omega (a
 
 pub loop-found-preserved : goal.loop-found-preserved
 loop-found-preserved c =
-    rw (c.one_if-found.ensures.0, c.kind_of.ensures) (list_goes_on c.loop-found.invariant (pass_below c.loop-found.invariant (omega (arith, c.loop-found-test.true))))
+    rw (c.from-found.ensures, (one_if _).0, c.kind_of.ensures) (list_goes_on c.loop-found.invariant (pass_below c.loop-found.invariant (omega (arith, c.loop-found-test.true))))
 
 pub returns : goal.returns
 returns c = pass_full c.loop-found.invariant c.loop-found-test.false

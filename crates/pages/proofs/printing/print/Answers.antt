@@ -5,10 +5,10 @@ use Rattle.checking.proofs.Checked.{check_none}
 use Rattle.pages.proofs.AllTurns.{printed_refused, at_once}
 use Rattle.pages.proofs.printing.print.Goals as goal
 
-pub sizes_of-z-requires : goal.sizes_of-z-requires
-sizes_of-z-requires g c = omega (arith, ((check_none _).0 (sym c.check-o.ensures ∙ ap refusal_in c.in-Done.is)).exact)
+pub sizes_of-requires : goal.sizes_of-requires
+sizes_of-requires g c = omega (arith, ((check_none _).0 (sym c.check.ensures ∙ ap refusal_in c.in-Ok.is)).exact)
 
-pub returns-in-Refused : goal.returns-in-Refused
-returns-in-Refused g c h =
-    let drawn = sym c.check-o.ensures ∙ ap refusal_in c.in-Refused.is in
-    at_once c.args.image.now _ _ (c.print_refused.ensures ∙ sym (printed_refused c.args.image.now [] drawn))
+pub returns-in-Err : goal.returns-in-Err
+returns-in-Err g c h =
+    let drawn = sym c.check.ensures ∙ ap refusal_in c.in-Err.is in
+    at_once c.args.image.now c.print_refused.new.text c.print_refused.result.used (c.print_refused.ensures ∙ sym (printed_refused c.args.image.now [] drawn))

@@ -29,13 +29,13 @@ module _ (s : List ℕ) (z : Sizes) (accepted : check_refusal s ≡ none) (is : 
 pub returns-then-z-eq0 : goal.returns-then-z-eq0
 returns-then-z-eq0 g c h =
     let none = printed_none c.args.image.now [] c.requires.0 (sym (ap (λ (z : Sizes). z.inputs) c.requires.1) ∙ c.if-z-eq0.true) in
-    at_once _ _ 0 (sym none)
+    at_once c.args.image.now c.args.text.now 0 (sym none)
 
-pub state_length-st-requires : goal.state_length-st-requires
-state_length-st-requires g c = omega (arith, few-registers c.args.image.now c.args.z c.requires.0 c.requires.1)
+pub state_length-requires : goal.state_length-requires
+state_length-requires g c = omega (arith, few-registers c.args.image.now c.args.z c.requires.0 c.requires.1)
 
-pub overflow_mul-n : goal.overflow_mul-n
-overflow_mul-n g c = record { fits = omega (arith, few-inputs c.args.image.now c.args.z c.requires.0 c.requires.1) }
+pub overflow_mul-rows : goal.overflow_mul-rows
+overflow_mul-rows g c = record { fits = omega (arith, few-inputs c.args.image.now c.args.z c.requires.0 c.requires.1) }
 
 pub slice_bounds-outs-end : goal.slice_bounds-outs-end
 slice_bounds-outs-end g c = few-outputs c.args.image.now c.args.z c.requires.0 c.requires.1
@@ -44,11 +44,11 @@ pub slice_bounds-take_input-end : goal.slice_bounds-take_input-end
 slice_bounds-take_input-end g c = sym (front_length 8192 c.args.z.outputs (few-outputs c.args.image.now c.args.z c.requires.0 c.requires.1))
 
 pub slice_bounds-state-end : goal.slice_bounds-state-end
-slice_bounds-state-end g c = few-state c.args.image.now c.args.z c.requires.0 c.requires.1 _ c.state_length-st.ensures
+slice_bounds-state-end g c = few-state c.args.image.now c.args.z c.requires.0 c.requires.1 _ c.state_length.ensures
 
 pub slice_bounds-take_input-end-2 : goal.slice_bounds-take_input-end-2
 slice_bounds-take_input-end-2 g c =
-    sym (front_length 8194 c.state_length-st.result (few-state c.args.image.now c.args.z c.requires.0 c.requires.1 _ c.state_length-st.ensures))
+    sym (front_length 8194 c.state_length.result (few-state c.args.image.now c.args.z c.requires.0 c.requires.1 _ c.state_length.ensures))
 
 pub slice_bounds-take_input-end-3 : goal.slice_bounds-take_input-end-3
 slice_bounds-take_input-end-3 g c = sym (zeros_length 524288)
@@ -67,7 +67,7 @@ take_input-requires-clause-outs_len g c =
     let is = c.requires.1 in
     let few = few-outputs s z c.requires.0 is in (
       front_length 8192 z.outputs few ∙ ap (λ (x : Sizes). x.outputs) is,
-      front_length 8194 c.state_length-st.result (few-state s z c.requires.0 is _ c.state_length-st.ensures) ∙ c.state_length-st.ensures ∙ ap state_length is,
+      front_length 8194 c.state_length.result (few-state s z c.requires.0 is _ c.state_length.ensures) ∙ c.state_length.ensures ∙ ap state_length is,
       outputs_room 8192 524288 z.outputs few (omega arith),
     )
 

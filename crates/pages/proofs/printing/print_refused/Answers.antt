@@ -1,10 +1,10 @@
 -- The line of a refusal has room.
-use Rattle.std.proofs.Common.{rules}
+use Rattle.std.proofs.Common.{rules, arith}
 use Rattle.page_turns.proofs.TextParts.{refusal_put, one_put}
 use Rattle.pages.proofs.printing.print_refused.Goals as goal
 
-pub write_text-failed-requires : goal.write_text-failed-requires
-write_text-failed-requires g c = (refusal_put c.args.text.now 0 c.args.refusal (search rules) c.refused_line-used.ensures).1.1
+pub shared_ref_as_front-write_text : goal.shared_ref_as_front-write_text
+shared_ref_as_front-write_text g c = omega (arith, (refusal_put c.args.text.now 0 c.args.refusal (search rules) c.refused_line-used.ensures).1.1)
 
 pub returns : goal.returns
 returns g c =

@@ -1,15 +1,7 @@
--- Each turn takes at most 64 rows; and it ends, since turns are counted.
-use Rattle.std.proofs.Common.{◌≡◌, ◌-◌, false, length}
+-- Each turn takes at most 64 rows, and leaves what the next one asks.
+use Rattle.std.proofs.Common.{◌≡◌, false}
 use Rattle.pages.proofs.AllTurns.{Holds}
 use Rattle.pages.proofs.printing.take_input.Given as goal
 
-abbrev pub invariant-loop-p : goal.invariant-loop-p
-invariant-loop-p g l =
-    (length l.state ≡ length l.initial.state)
-    × (length l.outputs ≡ length l.initial.outputs)
-    × (length l.rows ≡ length l.initial.rows)
-    × (length l.text ≡ length l.initial.text)
-    × (l.p.failed ≡ false → Holds l.image l.inputs l.outs l.state l.outputs l.text l.turns l.p)
-
-abbrev pub decreases-loop-p : goal.decreases-loop-p
-decreases-loop-p g l = 140737488355328 - l.turns
+abbrev pub invariant-loop-turn : goal.invariant-loop-turn
+invariant-loop-turn g l = l.p.failed ≡ false → Holds l.image l.inputs l.outs l.state l.outputs l.text l._turn l.p

@@ -1,5 +1,0 @@
--- Each turn of the loop leaves less to do.
-use Rattle.cases_text.proofs.filling.put_times.Given as goal
-
-abbrev pub decreases-loop-left : goal.decreases-loop-left
-decreases-loop-left l = l.left

@@ -1,0 +1,71 @@
+-- `settling::settling::settle` meets its contract: a gate or OUT takes the code of the table, and another net keeps its byte.
+use Rattle.std.proofs.Common.{◌∙◌, ◌≤◌, arith}
+use borrow.Author.Tests.{lt-leb}
+use Rattle.gates.specs.Kinds.{NOT}
+use Rattle.image.specs.Image.{kind_at}
+use Rattle.checking.proofs.Checked.{Checked, check_none}
+use Rattle.unknowns.proofs.ByWidth.{rule_code}
+use Rattle.settling.specs.Settling.{settled_at}
+use Rattle.settling.proofs.Gatewise.{gate_there, takes_code}
+use Rattle.settling.proofs.settling.settle.Goals as goal
+
+pub kind_of-kind-requires : goal.kind_of-kind-requires
+kind_of-kind-requires g c = let known : Checked c.args.image.now = (check_none _).0 c.requires.image_value in omega (arith, known.exact, c.requires.i_value)
+
+pub operand_of-a-requires : goal.operand_of-a-requires
+operand_of-a-requires g c = let known : Checked c.args.image.now = (check_none _).0 c.requires.image_value in (c.requires.i_value, omega arith, known.exact)
+
+pub operand_of-b-requires : goal.operand_of-b-requires
+operand_of-b-requires g c = let known : Checked c.args.image.now = (check_none _).0 c.requires.image_value in (c.requires.i_value, omega arith, known.exact)
+
+pub operand_of-c-requires : goal.operand_of-c-requires
+operand_of-c-requires g c = let known : Checked c.args.image.now = (check_none _).0 c.requires.image_value in (c.requires.i_value, omega arith, known.exact)
+
+pub bounds-nets-a : goal.bounds-nets-a
+bounds-nets-a g c =
+    let gate = gate_there c.requires.image_value c.requires.i_value c.requires.nets_value.1 c.kind_of-kind.ensures c.if-kind.true in
+    omega (arith, gate.a.place, c.operand_of-a.ensures.0, c.requires.nets_value.0)
+
+pub bounds-nets-b : goal.bounds-nets-b
+bounds-nets-b g c =
+    let gate = gate_there c.requires.image_value c.requires.i_value c.requires.nets_value.1 c.kind_of-kind.ensures c.if-kind.true in
+    omega (arith, gate.b.place, c.operand_of-b.ensures.0, c.requires.nets_value.0)
+
+pub bounds-nets-c : goal.bounds-nets-c
+bounds-nets-c g c =
+    let gate = gate_there c.requires.image_value c.requires.i_value c.requires.nets_value.1 c.kind_of-kind.ensures c.if-kind.true in
+    omega (arith, gate.c.place, c.operand_of-c.ensures.0, c.requires.nets_value.0)
+
+pub code_by-x-requires-clause-tabled : goal.code_by-x-requires-clause-tabled
+code_by-x-requires-clause-tabled g c =
+    let gate = gate_there c.requires.image_value c.requires.i_value c.requires.nets_value.1 c.kind_of-kind.ensures c.if-kind.true in
+    (c.requires.tabled, rw c.kind_of-kind.ensures gate.kind)
+
+pub code_by-x-requires-clause-a_value : goal.code_by-x-requires-clause-a_value
+code_by-x-requires-clause-a_value g c =
+    let gate = gate_there c.requires.image_value c.requires.i_value c.requires.nets_value.1 c.kind_of-kind.ensures c.if-kind.true in
+    rw (c.operand_of-a.ensures.0, c.operand_of-b.ensures.0, c.operand_of-c.ensures.0) (gate.a.code, gate.b.code, gate.c.code)
+
+pub inverse-requires : goal.inverse-requires
+inverse-requires g c =
+    let gate = gate_there c.requires.image_value c.requires.i_value c.requires.nets_value.1 c.kind_of-kind.ensures c.if-kind.true in
+    rw (c.code_by-x.ensures, c.operand_of-a.ensures.0, c.operand_of-b.ensures.0, c.operand_of-c.ensures.0) (rule_code _ _ _ _ _ gate.a.code gate.b.code gate.c.code)
+
+pub put_both-requires : goal.put_both-requires
+put_both-requires g c =
+    let known : Checked c.args.image.now = (check_none _).0 c.requires.image_value in
+    (omega (arith, known.few_nets, c.requires.i_value), omega (arith, known.few_nets, c.requires.i_value, c.requires.nets_value.0))
+
+pub returns-then-kind : goal.returns-then-kind
+returns-then-kind g c =
+    let gate = gate_there c.requires.image_value c.requires.i_value c.requires.nets_value.1 c.kind_of-kind.ensures c.if-kind.true in
+    let read : NOT ≤ kind_at c.args.image.now c.args.i = rw c.kind_of-kind.ensures at c.if-kind.true in
+    c.put_both.ensures
+    ∙ takes_code _ _ _ _ c.kind_of-kind.ensures read
+    c.operand_of-a.ensures.0 c.operand_of-b.ensures.0 c.operand_of-c.ensures.0
+    (rw c.operand_of-a.ensures.0 gate.a.pin) (rw c.operand_of-b.ensures.0 gate.b.pin) (rw c.operand_of-c.ensures.0 gate.c.pin)
+    c.code_by-x.ensures c.inverse.ensures
+
+pub returns-else-kind : goal.returns-else-kind
+unfolding settled_at
+returns-else-kind g c = rw (lt-leb 3 (kind_at c.args.image.now c.args.i) (rw c.kind_of-kind.ensures at c.if-kind.false))
