@@ -13,7 +13,7 @@ use large_groups::{Pair, gate, put_and, put_mux, put_or, put_two};
 fn mark_start(b: usize) -> usize
     ensures { result ≡ mark_start b }
 {
-    usize::from(b == 2)
+    if b == 2 { 1 } else { 0 }
 }
 
 // The group of a net x, from the value pins and mark pins of its pins. The buffer, the size and the place stay apart, as in `put_and`.
@@ -25,25 +25,39 @@ pub fn put_group(d: &mut [u8], size: usize, v: usize, x: Net, a: Pair, b: Pair, 
     let Ok(kind) = Kind::try_from(x.kind) else {
         unreachable!()
     };
-    let nets = match kind {
+    match kind {
         // CONST a; CONST 0.
-        Kind::Const => (gate(kind, x.a, 0), gate(kind, 0, 0)),
+        Kind::Const => put_two(d, size, v, gate(kind, x.a, 0), gate(kind, 0, 0)),
         // INPUT; INPUT.
-        Kind::Input => (gate(kind, 0, 0), gate(kind, 0, 0)),
+        Kind::Input => put_two(d, size, v, gate(kind, 0, 0), gate(kind, 0, 0)),
         // REG on va with start b; REG on ta, which starts at 1 where b is 2.
-        Kind::Reg => (
+        Kind::Reg => put_two(
+            d,
+            size,
+            v,
             gate(kind, a.value, x.b),
             gate(kind, a.mark, mark_start(x.b)),
         ),
         // NOT va; OR(ta, ta).
-        Kind::Not => (gate(kind, a.value, 0), gate(Kind::Or, a.mark, a.mark)),
+        Kind::Not => put_two(
+            d,
+            size,
+            v,
+            gate(kind, a.value, 0),
+            gate(Kind::Or, a.mark, a.mark),
+        ),
+        Kind::And => put_and(d, size, v, a, b),
+        Kind::Or => put_or(d, size, v, a, b),
         // XOR(va, vb); OR(ta, tb).
-        Kind::Xor => (gate(kind, a.value, b.value), gate(Kind::Or, a.mark, b.mark)),
+        Kind::Xor => put_two(
+            d,
+            size,
+            v,
+            gate(kind, a.value, b.value),
+            gate(Kind::Or, a.mark, b.mark),
+        ),
+        Kind::Mux => put_mux(d, size, v, a, b, c),
         // OUT va, free; OUT ta, free.
-        Kind::Out => (gate(kind, a.value, 0), gate(kind, a.mark, 0)),
-        Kind::And => return put_and(d, size, v, a, b),
-        Kind::Or => return put_or(d, size, v, a, b),
-        Kind::Mux => return put_mux(d, size, v, a, b, c),
-    };
-    put_two(d, size, v, nets.0, nets.1)
+        Kind::Out => put_two(d, size, v, gate(kind, a.value, 0), gate(kind, a.mark, 0)),
+    }
 }

@@ -38,6 +38,10 @@ few {s} {n} {i = i} t k h =
     let before = nets_from s n 0 i in
     rw (t.counted, count_at k before h) (omega (arith, count_most k before, nets_length s n 0 i))
 
+-- so each can be raised
+pub can_raise : {s : List ℕ} {n : ℕ} {ls counts : List ℕ} {i : ℕ} → Turn s n ls counts i → n ≤ 8192 → (k : ℕ) → k < 9 → get_or counts k 0 + 1 ≤ 8193
+can_raise t m k h = omega (arith, few t k h, t.most, m)
+
 module _ {s : List ℕ} {n : ℕ} {ls counts : List ℕ} {i : ℕ} (t : Turn s n ls counts i) (h : i < n) {x : Net} (this : x ≡ net_at s n i) where
   -- what refuses net i, and then what refuses the nets behind it
   at-net : nets_refusal n 0 (nets_of s) ≡ (net_refusal n i x then nets_refusal n (suc i) (nets_left s n (i + 1)))
@@ -57,7 +61,7 @@ module _ {s : List ℕ} {n : ℕ} {ls counts : List ℕ} {i : ℕ} (t : Turn s n
 
     -- a count can be raised
     pub can_count : n ≤ 8192 → get_or counts x.kind 0 + 1 ≤ 8193
-    can_count m = omega (arith, few t x.kind kind_passed, t.most)
+    can_count m = can_raise t m x.kind kind_passed
 
     pub goes_on : Turn s n (set ls 7 i) (raised counts x.kind) (i + 1)
     goes_on =

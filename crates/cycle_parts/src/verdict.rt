@@ -26,10 +26,12 @@ pub fn verdict_of(image: &[u8], n: usize, nets: &[u8]) -> Verdict
     requires n_value { (n ≡ (sizes_of image.now).nets) × (length nets.now ≡ n) }
     ensures { verdict_in result ≡ verdict_from mark 0 (nets_of image.now) nets.now }
 {
+    let mut verdict = Verdict::Clear;
     for i in 0..n {
         if flows(image, i, nets) {
-            return Verdict::Flow(i);
+            verdict = Verdict::Flow(i);
+            break;
         }
     }
-    Verdict::Clear
+    verdict
 }

@@ -29,18 +29,26 @@ unfolding with_cycle
 one_cycle outputs v p h = ap (λ (x : Printed). x.cycles) h
 
 -- one line more
-pub lines_next : (s outs bytes : List ℕ) (c k : ℕ) (p : Printed) → c < k
+pub lines_next : (s outs bytes : List ℕ) (c k from : ℕ) (p : Printed) → c < k
+    → let these = take (from + length outs - from) (drop from bytes) in
+    with_lines s outs (k - (c + 1)) (drop (from + length outs) bytes) (with_cycle these (verdict_by s outs these) p)
+    ≡ with_lines s outs (k - c) (drop from bytes) p
+unfolding with_lines
+lines_next s outs bytes c k from p h =
+    let e : k - c ≡ suc (k - (c + 1)) = omega arith in
+    let f : from + length outs - from ≡ length outs = omega arith in
+    rw (e, f, ← drop-drop (length outs) from bytes)
+
+-- the same where the bytes of each cycle stand behind those of the cycles before it
+pub cycle_lines : (s outs bytes : List ℕ) (c k : ℕ) (p : Printed) → c < k
     → let from = c * length outs in
     let these = take (from + length outs - from) (drop from bytes) in
     with_lines s outs (k - (c + 1)) (drop ((c + 1) * length outs) bytes) (with_cycle these (verdict_by s outs these) p)
     ≡ with_lines s outs (k - c) (drop from bytes) p
-unfolding with_lines
-lines_next s outs bytes c k p h =
+cycle_lines s outs bytes c k p h =
     let o = length outs in
-    let e : k - c ≡ suc (k - (c + 1)) = omega arith in
-    let f : c * o + o - c * o ≡ o = omega arith in
     let n : (c + 1) * o ≡ c * o + o = omega (arith, add-mul c 1 o, one-mul o) in
-    rw (e, f, n, ← drop-drop o (c * o) bytes)
+    rw n (lines_next s outs bytes c k (c * o) p h)
 
 pub lines_done : (s outs bytes : List ℕ) (c k : ℕ) (p : Printed) → k ≤ c → with_lines s outs (k - c) bytes p ≡ p
 unfolding with_lines

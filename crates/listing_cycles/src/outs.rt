@@ -4,7 +4,7 @@ ghost use Rattle.cycle.specs.Answers.{verdict_in};
 ghost use Rattle.listing_cycles.specs.ByOutputs.{Known, verdict_by};
 
 use cycle::Verdict;
-use gates::marked;
+use gates::mark_bit;
 use image::operand_of;
 
 // An accepted image, its I, which is not 0, and the list of its OUTs.
@@ -17,7 +17,8 @@ pub struct Netlist<'a> {
 }
 
 impl Netlist<'_> {
-    // The verdict of a cycle, by its output bytes.
+    // The verdict of a cycle, by its output bytes. Policy and mark are tested as one number, 3 where both are 1: by two branches the listing takes half as long
+    // again where both are mixed.
     #[tactic(auto, unfolding(crate::specs::ByOutputs::verdict_by))]
     pub fn verdict_by(self, bytes: &[u8]) -> Verdict
         requires { length bytes.now ≡ length self.outs.now }
@@ -25,7 +26,7 @@ impl Netlist<'_> {
     {
         for (i, byte) in self.outs.iter().zip(bytes) {
             let i = usize::from(*i);
-            if operand_of(self.image, i, 1) == 1 && marked(*byte) {
+            if 2 * operand_of(self.image, i, 1) + usize::from(mark_bit(*byte)) == 3 {
                 return Verdict::Flow(i);
             }
         }

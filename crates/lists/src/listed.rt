@@ -55,13 +55,15 @@ fn verdict_listed(list: &[u16], nets: &[u8]) -> Verdict
     requires { Within (length nets.now) list.now }
     ensures { verdict_in result ≡ first_marked list.now nets.now }
 {
+    let mut verdict = Verdict::Clear;
     for &net in list {
         let i = usize::from(net);
         if marked(nets[i]) {
-            return Verdict::Flow(i);
+            verdict = Verdict::Flow(i);
+            break;
         }
     }
-    Verdict::Clear
+    verdict
 }
 
 // The first flow of cycles 0 to c, by the listed protected OUTs. `earlier` is that of the cycles before c.

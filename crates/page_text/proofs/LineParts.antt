@@ -20,14 +20,20 @@ pub heading_parts_lem : (first : ℕ) → heading first ≡ joined (heading_part
 unfolding heading line set_left
 heading_parts_lem first = simp append_assoc
 
--- the line of output j of o, in n cycles
-abbrev pub output_parts : (net o j n : ℕ) (bytes : List ℕ) → List (List ℕ)
-output_parts net o j n bytes =
+abbrev pub output_parts : (net : ℕ) (bytes : List ℕ) → List (List ℕ)
+output_parts net bytes = blanks (5 - length (decimal net)) ∷ decimal net ∷ space ∷ map sign bytes ∷ blanks (64 - length bytes) ∷ newline ∷ []
+
+pub output_parts_lem : (net : ℕ) (bytes : List ℕ) → output_line net bytes ≡ joined (output_parts net bytes)
+unfolding output_line line set_left set_right
+output_parts_lem net bytes = rw (length-map bytes sign) (simp append_assoc)
+
+-- the same of output j of o, in n cycles
+abbrev pub column_parts : (net o j n : ℕ) (bytes : List ℕ) → List (List ℕ)
+column_parts net o j n bytes =
     blanks (5 - length (decimal net)) ∷ decimal net ∷ space ∷ map sign (output_bytes o j n bytes) ∷ blanks (64 - n) ∷ newline ∷ []
 
-pub output_parts_lem : (net o j n : ℕ) (bytes : List ℕ) → output_line net (output_bytes o j n bytes) ≡ joined (output_parts net o j n bytes)
-unfolding output_line line set_left set_right
-output_parts_lem net o j n bytes = rw (length-map (output_bytes o j n bytes) sign, output_length o j n bytes) (simp append_assoc)
+pub column_parts_lem : (net o j n : ℕ) (bytes : List ℕ) → output_line net (output_bytes o j n bytes) ≡ joined (column_parts net o j n bytes)
+column_parts_lem net o j n bytes = rw (output_length o j n bytes) at (output_parts_lem net (output_bytes o j n bytes))
 
 -- a line of 5 and 64 columns
 line_length : (label rest : List ℕ) → length label ≡ 5 → length rest ≡ 64 → length (line label rest) ≡ 71

@@ -16,12 +16,12 @@ abbrev pub Numbers : List ℕ → Type 0
 Numbers nets = (i : ℕ) → get_or nets i 0 < 100000
 
 -- the line of output j, and those after it
-lines_next : (o n : ℕ) (nets bytes : List ℕ) (j : ℕ) → j < length nets
+pub lines_next : (o n : ℕ) (nets bytes : List ℕ) (j : ℕ) → j < length nets
     → output_lines o j n (drop j nets) bytes ≡ output_line (get_or nets j 0) (output_bytes o j n bytes) ++ output_lines o (j + 1) n (drop (j + 1) nets) bytes
 unfolding output_lines
 lines_next o n nets bytes j h = rw (drop-cons nets j 0 h, add-one, output_lines)
 
-lines_none : (o n : ℕ) (nets bytes : List ℕ) (j : ℕ) → length nets ≤ j → output_lines o j n (drop j nets) bytes ≡ []
+pub lines_none : (o n : ℕ) (nets bytes : List ℕ) (j : ℕ) → length nets ≤ j → output_lines o j n (drop j nets) bytes ≡ []
 unfolding output_lines
 lines_none o n nets bytes j h = rw (drop_of_length-le nets h, output_lines)
 

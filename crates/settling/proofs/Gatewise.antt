@@ -81,9 +81,12 @@ pub record Reads (w : ℕ) (nets : List ℕ) (p : ℕ) : Type 0 where
   pub code : code_by w (get_or nets p 0) ≡ true
   pub pin : get_or nets p 0 ≡ pin_byte (rule_by w) nets p
 
--- and the pins of a gate or OUT, with its kind
+-- and the pins of a gate or OUT, with its kind: each names a net
 pub record Gate (w : ℕ) (s nets : List ℕ) (i : ℕ) : Type 0 where
   pub kind : kind_at s i < 9
+  pub a-named : pin_net (operand_at s (sizes_of s).nets i 0) < (sizes_of s).nets
+  pub b-named : pin_net (operand_at s (sizes_of s).nets i 1) < (sizes_of s).nets
+  pub c-named : pin_net (operand_at s (sizes_of s).nets i 2) < (sizes_of s).nets
   pub a : Reads w nets (operand_at s (sizes_of s).nets i 0)
   pub b : Reads w nets (operand_at s (sizes_of s).nets i 1)
   pub c : Reads w nets (operand_at s (sizes_of s).nets i 2)
@@ -93,7 +96,7 @@ gate_there {w} {s} {nets} {i} accepted h both kind gate =
     let known : Checked s = (check_none s).0 accepted in
     let pins = pins_there known i h (rw kind at gate) in
     let reads : (p : ℕ) → pin_net p < (sizes_of s).nets → Reads w nets p = λ p l. record { place = pin_there p known.few_nets l; code = pin_coded both p l; pin = pin_place both p l } in
-    record { kind = pins.kind; a = reads _ pins.a; b = reads _ pins.b; c = reads _ pins.c }
+    record { kind = pins.kind; a-named = pins.a; b-named = pins.b; c-named = pins.c; a = reads _ pins.a; b = reads _ pins.b; c = reads _ pins.c }
 
 rule_coded : (w : ℕ) (s bs : List ℕ) (i : ℕ) → Both w bs (sizes_of s).nets
     → Pins (sizes_of s).nets (net (kind_at s i) (operand_at s (sizes_of s).nets i 0) (operand_at s (sizes_of s).nets i 1) (operand_at s (sizes_of s).nets i 2))

@@ -1,14 +1,13 @@
--- A flag as a number is its bit.
-use Rattle.std.proofs.Common.{◌≡◌, ◌∙◌, refl, Bool, true, false, eqb}
-use mir.Val.{bool_byte}
-use Rattle.gates.specs.Rules.{bit}
+-- Where b is 2 the start is 1, and else it is 0.
+use Rattle.std.proofs.Common.{refl}
+use borrow.Author.Tests.{ne_eqb}
 use Rattle.groups.specs.Groups.{mark_start}
 use Rattle.all_groups.proofs.group.mark_start.Goals as goal
 
-as_bit : (t : Bool) → bool_byte t ≡ bit t
-as_bit true = refl
-as_bit false = refl
-
-pub returns : goal.returns
+pub returns-then-b-eq2 : goal.returns-then-b-eq2
 unfolding mark_start
-returns c = c.from.ensures ∙ as_bit (eqb c.args.b 2)
+returns-then-b-eq2 c = rw c.if-b-eq2.true refl
+
+pub returns-else-b-eq2 : goal.returns-else-b-eq2
+unfolding mark_start
+returns-else-b-eq2 c = rw (ne_eqb _ 2 c.if-b-eq2.false) refl

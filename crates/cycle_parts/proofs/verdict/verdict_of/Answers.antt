@@ -23,7 +23,7 @@ unfolding verdict_from
 nothing_left i bs = refl
 
 pub loop-i-init : goal.loop-i-init
-loop-i-init c = ap (λ xs. verdict_from mark 0 xs c.args.nets.now) (sym (nets_left_lem c.args.image.now _ c.requires.n_value.0))
+loop-i-init c = (ap (λ xs. verdict_from mark 0 xs c.args.nets.now) (sym (nets_left_lem c.args.image.now _ c.requires.n_value.0)), refl)
 
 pub flows-requires : goal.flows-requires
 flows-requires c =
@@ -33,13 +33,13 @@ flows-requires c =
 pub loop-i-preserved : goal.loop-i-preserved
 loop-i-preserved c =
     let here = this_net c.args.image.now c.args.n c.loop-i.i c.args.nets.now c.requires.n_value.0 c.loop-i-test.true in
-    c.loop-i.invariant ∙ (rw (← c.flows.ensures, c.if-flows.false) at here)
+    (c.loop-i.invariant.0 ∙ (rw (← c.flows.ensures, c.if-flows.false) at here), c.loop-i.invariant.1)
 
 pub returns-then-flows : goal.returns-then-flows
 returns-then-flows c =
     let here = this_net c.args.image.now c.args.n c.loop-i.i c.args.nets.now c.requires.n_value.0 c.loop-i-test.true in
-    sym (c.loop-i.invariant ∙ (rw (← c.flows.ensures, c.if-flows.true) at here))
+    sym (c.loop-i.invariant.0 ∙ (rw (← c.flows.ensures, c.if-flows.true) at here))
 
-pub returns : goal.returns
-returns c =
-    sym (c.loop-i.invariant ∙ rw (nets_done c.args.image.now c.args.n c.loop-i.i (omega (arith, c.loop-i-test.false)), nothing_left))
+pub returns-after-loop-i : goal.returns-after-loop-i
+returns-after-loop-i c =
+    c.loop-i.invariant.1 ∙ sym (c.loop-i.invariant.0 ∙ rw (nets_done c.args.image.now c.args.n c.loop-i.i (omega (arith, c.loop-i-test.false)), nothing_left))

@@ -5,13 +5,13 @@ use Rattle.lists.proofs.listed.verdict_listed.Goals as goal
 
 pub returns-then-marked : goal.returns-then-marked
 returns-then-marked c =
-    let step = c.loop-net.invariant ∙ marked_next c.args.list.now c.args.nets.now c.loop-net.net-index c.loop-net-test.true in
+    let step = c.loop-net.invariant.0 ∙ marked_next c.args.list.now c.args.nets.now c.loop-net.net-index c.loop-net-test.true in
     sym (rw (← c.from-i.ensures, ← c.marked.ensures, c.if-marked.true) at step)
 
 pub loop-net-preserved : goal.loop-net-preserved
 loop-net-preserved c =
-    let step = c.loop-net.invariant ∙ marked_next c.args.list.now c.args.nets.now c.loop-net.net-index c.loop-net-test.true in
-    rw (← c.from-i.ensures, ← c.marked.ensures, c.if-marked.false) at step
+    let step = c.loop-net.invariant.0 ∙ marked_next c.args.list.now c.args.nets.now c.loop-net.net-index c.loop-net-test.true in
+    (rw (← c.from-i.ensures, ← c.marked.ensures, c.if-marked.false) at step, c.loop-net.invariant.1)
 
-pub returns : goal.returns
-returns c = sym (c.loop-net.invariant ∙ marked_done c.args.list.now c.args.nets.now c.loop-net.net-index c.loop-net-test.false)
+pub returns-after-loop-net : goal.returns-after-loop-net
+returns-after-loop-net c = c.loop-net.invariant.1 ∙ sym (c.loop-net.invariant.0 ∙ marked_done c.args.list.now c.args.nets.now c.loop-net.net-index c.loop-net-test.false)

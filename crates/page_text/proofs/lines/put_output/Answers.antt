@@ -1,7 +1,7 @@
 -- Six parts, one behind the other.
 use Rattle.text.specs.Ascii.{space, newline}
 use Rattle.text.proofs.Putting.{left_all, left_then, left_none}
-use Rattle.page_text.proofs.LineParts.{output_parts_lem}
+use Rattle.page_text.proofs.LineParts.{column_parts_lem}
 use Rattle.page_text.proofs.lines.put_output.Goals as goal
 
 pub returns-clause-page_after : goal.returns-clause-page_after
@@ -20,7 +20,7 @@ returns-clause-page_after c =
     (left_then
     (left_then
     (left_then {xs = space}
-    (left_then (left_then (left_all (output_parts_lem c.args.net p.outputs p.output p.cycles p.bytes.now)) (rw count at before.page_after) (rw count at before.value)) (rw same at number.buffer_after) (rw same at number.value))
+    (left_then (left_then (left_all (column_parts_lem c.args.net p.outputs p.output p.cycles p.bytes.now)) (rw count at before.page_after) (rw count at before.value)) (rw same at number.buffer_after) (rw same at number.value))
     blank.buffer_after
     blank.value)
     signs.page_after

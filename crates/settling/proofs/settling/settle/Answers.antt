@@ -1,13 +1,25 @@
 -- `settling::settling::settle` meets its contract: a gate or OUT takes the code of the table, and another net keeps its byte.
-use Rattle.std.proofs.Common.{◌∙◌, ◌≤◌, arith}
+use Rattle.std.proofs.Common.{ℕ, List, true, get_or, ◌≡◌, ◌∙◌, ◌%◌, ◌≤◌, ◌<◌, arith}
 use borrow.Author.Tests.{lt-leb}
 use Rattle.gates.specs.Kinds.{NOT}
 use Rattle.image.specs.Image.{kind_at}
+use Rattle.image.specs.Pins.{pin_net}
+use Rattle.image.proofs.PinNets.{net_rest}
 use Rattle.checking.proofs.Checked.{Checked, check_none}
+use Rattle.unknowns.specs.Widths.{code_by}
 use Rattle.unknowns.proofs.ByWidth.{rule_code}
+use Rattle.inverses.specs.Inverses.{Both}
 use Rattle.settling.specs.Settling.{settled_at}
-use Rattle.settling.proofs.Gatewise.{gate_there, takes_code}
+use Rattle.settling.proofs.Gatewise.{pin_coded, gate_there, takes_code}
 use Rattle.settling.proofs.settling.settle.Goals as goal
+
+-- a place below 65,536 holds a code, where its rest by 32,768 names a net
+coded : {w : ℕ} {bs : List ℕ} {m : ℕ} → Both w bs m → (p : ℕ) → p < 65536 → p % 32768 < m → code_by w (get_or bs p 0) ≡ true
+coded both p low h = pin_coded both p (rw (← net_rest p low) h)
+
+-- a pin as it was read, and its rest
+rest : {p q m : ℕ} → p ≡ q → q < 40960 → pin_net q < m → (p < 40960) × (p % 32768 < m)
+rest {q = q} e low h = (omega (arith, e, low), rw (e, net_rest q (omega (arith, low))) h)
 
 pub kind_of-kind-requires : goal.kind_of-kind-requires
 kind_of-kind-requires g c = let known : Checked c.args.image.now = (check_none _).0 c.requires.image_value in omega (arith, known.exact, c.requires.i_value)
@@ -44,12 +56,20 @@ code_by-x-requires-clause-tabled g c =
 pub code_by-x-requires-clause-a_value : goal.code_by-x-requires-clause-a_value
 code_by-x-requires-clause-a_value g c =
     let gate = gate_there c.requires.image_value c.requires.i_value c.requires.nets_value.1 c.kind_of-kind.ensures c.if-kind.true in
-    rw (c.operand_of-a.ensures.0, c.operand_of-b.ensures.0, c.operand_of-c.ensures.0) (gate.a.code, gate.b.code, gate.c.code)
+    let a = rest c.operand_of-a.ensures.0 gate.a.place gate.a-named in
+    let b = rest c.operand_of-b.ensures.0 gate.b.place gate.b-named in
+    let d = rest c.operand_of-c.ensures.0 gate.c.place gate.c-named in
+    let code = coded c.requires.nets_value.1 in
+    (code _ (omega (arith, a.0)) (omega (arith, a.1)), code _ (omega (arith, b.0)) (omega (arith, b.1)), code _ (omega (arith, d.0)) (omega (arith, d.1)))
 
 pub inverse-requires : goal.inverse-requires
 inverse-requires g c =
     let gate = gate_there c.requires.image_value c.requires.i_value c.requires.nets_value.1 c.kind_of-kind.ensures c.if-kind.true in
-    rw (c.code_by-x.ensures, c.operand_of-a.ensures.0, c.operand_of-b.ensures.0, c.operand_of-c.ensures.0) (rule_code _ _ _ _ _ gate.a.code gate.b.code gate.c.code)
+    let a = rest c.operand_of-a.ensures.0 gate.a.place gate.a-named in
+    let b = rest c.operand_of-b.ensures.0 gate.b.place gate.b-named in
+    let d = rest c.operand_of-c.ensures.0 gate.c.place gate.c-named in
+    let code = coded c.requires.nets_value.1 in
+    rw c.code_by-x.ensures (rule_code _ _ _ _ _ (code _ (omega (arith, a.0)) (omega (arith, a.1))) (code _ (omega (arith, b.0)) (omega (arith, b.1))) (code _ (omega (arith, d.0)) (omega (arith, d.1))))
 
 pub put_both-requires : goal.put_both-requires
 put_both-requires g c =

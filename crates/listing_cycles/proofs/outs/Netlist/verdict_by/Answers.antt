@@ -1,9 +1,14 @@
 -- Each OUT is a net of the image; one that draws no flow leaves the verdict to those after it.
-use Rattle.std.proofs.Common.{arith, sym, ap, ◌≡◌, ◌∙◌, length}
+use Rattle.std.proofs.Common.{arith, refl, ap, ◌≡◌, ◌∙◌, ◌+◌, ◌*◌, ℕ, Bool, true, false, length}
+use Rattle.gates.specs.Rules.{bit, mark}
 use Rattle.checking.proofs.Checked.{check_none}
 use Rattle.listing_cycles.proofs.Verdicts.{outs_nets, nets_left, verdict_passed}
 use Rattle.listing_cycles.proofs.outs.Netlist.verdict_by.Goals as goal
-use Rattle.listing_cycles.proofs.outs.Netlist.verdict_by.Goals.{else-operand_of-eq1-via-then-operand_of-eq1+else-marked, else-operand_of-eq1-via-else-operand_of-eq1}
+
+-- where the policy is 1 and the two make no 3, the mark is 0
+unmarked : {policy m : ℕ} (marked : Bool) → policy ≡ 1 → m ≡ bit marked → (2 * policy + m ≡ 3 → ⊥) → marked ≡ false
+unmarked false e f other = refl
+unmarked true e f other = absurd (other (omega (arith, e, f)))
 
 pub loop-i-init : goal.loop-i-init
 loop-i-init c =
@@ -27,9 +32,7 @@ loop-i-preserved c =
       size = omega (arith, ap length step.steps.0, ap length step.steps.1, inv.size);
       left = verdict_passed _ step.steps.0 step.steps.1
           (λ e.
-          elim c.else-operand_of-eq1.branch [
-            | else-operand_of-eq1-via-then-operand_of-eq1+else-marked w ↦ sym w.if-marked.ensures
-            | else-operand_of-eq1-via-else-operand_of-eq1 w ↦ absurd (w.if-operand_of-eq1.false (cc (e, c.operand_of.ensures.0, c.from-i.ensures)))
-          ])
+          let one : c.operand_of.result ≡ 1 = cc (e, c.operand_of.ensures.0, c.from-i.ensures) in
+          unmarked (mark c.in-Some.byte.now) (omega (arith, one)) (c.from.ensures ∙ c.mark_bit.ensures.0) c.if-operand_of-from-eq3.false)
           ∙ inv.left;
     }
